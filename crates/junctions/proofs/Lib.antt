@@ -1,0 +1,9 @@
+pub mod Bits
+pub mod Sets
+pub mod Growth
+pub mod Members
+pub mod Words
+pub mod Complement
+pub mod Bounds
+pub mod Single
+pub mod Gather

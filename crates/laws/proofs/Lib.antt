@@ -1,0 +1,13 @@
+pub mod Booleans
+pub mod Finite
+pub mod Connectives
+pub mod Places
+pub mod Counts
+pub mod Growth
+pub mod First
+pub mod DoubleSums
+pub mod Numbers
+pub mod Twice
+pub mod Lists
+pub mod Agree
+pub mod Inserting

@@ -1,0 +1,24 @@
+-- Tests and properties over all of a list, and the test that two lists are the same. Assumes nothing: these are definitions.
+use mathlib.Core.Bool.{Bool, true, false, _&&_}
+use mathlib.Core.List.{List, [], _∷_}
+
+-- everything in the list passes
+unfoldable pub all-in : {A : Type 0} → (A → Bool) → List A → Bool
+all-in p [] = true
+all-in p (x ∷ xs) = p x && all-in p xs
+
+-- every test in the list passes
+unfoldable pub all-of : List Bool → Bool
+all-of ts = all-in (λ t. t) ts
+
+-- everything in the list has the property
+unfoldable pub Each : {A : Type 0} → (A → Type 0) → List A → Type 0
+Each P [] = Unit {0}
+Each P (x ∷ xs) = P x × Each P xs
+
+-- two lists are the same, place by place
+unfoldable pub same-list : {A : Type 0} → (same : A → A → Bool) → (xs ys : List A) → Bool
+same-list same [] [] = true
+same-list same [] (y ∷ ys) = false
+same-list same (x ∷ xs) [] = false
+same-list same (x ∷ xs) (y ∷ ys) = same x y && same-list same xs ys

@@ -1,0 +1,1 @@
+// General laws on booleans, numbers, lists and finite search. No code.
