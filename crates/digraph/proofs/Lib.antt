@@ -1,0 +1,10 @@
+pub mod Closure
+pub mod Search
+pub mod Expand
+pub mod Balls
+pub mod Same
+pub mod Paths
+pub mod Layers
+pub mod Rest
+pub mod Breadth
+pub mod Backward

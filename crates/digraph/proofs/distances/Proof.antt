@@ -1,0 +1,63 @@
+-- Distances gives the fewest arcs to each junction, a layer a turn. Assumes nothing.
+use Prim.Native.Nat.{_-_}
+use native.Mathlib.Omega.{arith}
+use borrow.Author.Needs.{needs}
+use Rattle.digraph.specs.Adjacency.{out-of}
+use Rattle.digraph.specs.Turns.{Turn}
+use Rattle.digraph.proofs.Breadth.{breadth-start, breadth-below, breadth-step, breadth-end}
+use Rattle.digraph.proofs.distances.Statement.{statement}
+use Rattle.digraph.proofs.distances.Tie as tie
+
+abbrev Inv-loop : tie.InvT-loop
+Inv-loop adjacency start distances₀ layer₀ seen₀ d₀ distances layer seen d = Turn (out-of adjacency) start distances layer seen d
+
+abbrev μ-loop : tie.MeasureT-loop
+μ-loop adjacency start distances₀ layer₀ seen₀ d₀ distances layer seen d = 64 - d
+
+sub-layer : tie.Need-sub-layer Inv-loop μ-loop
+sub-layer c = search needs
+
+shl-layer : tie.Need-shl-layer Inv-loop μ-loop
+shl-layer c = search needs
+
+loop-holds : tie.Need-loop-holds Inv-loop μ-loop
+loop-holds c = breadth-start (out-of (c .args .adjacency .now)) (c .args .start) (c .pre .0) (c .pre .1)
+
+mark-requires : tie.Need-mark-requires Inv-loop μ-loop
+mark-requires c κs = c .before .before .loop .inv .1
+
+spread-requires : tie.Need-spread-requires Inv-loop μ-loop
+spread-requires c κs = search needs
+
+add-d : tie.Need-add-d Inv-loop μ-loop
+add-d c = let l = c .before .before .before .before .loop in let s = c .before .before .before .before .before in
+    record { fits = omega (arith, breadth-below (out-of (s .args .adjacency .now)) (s .args .start) (s .pre .0) (s .pre .1) (l .distances) (l .layer) (l .seen) (l .d) (l .inv) (omega arith)) }
+
+loop-less : tie.Need-loop-less Inv-loop μ-loop
+loop-less c = let l = c .before .before .before .before .loop in let s = c .before .before .before .before .before in
+    omega (arith, breadth-below (out-of (s .args .adjacency .now)) (s .args .start) (s .pre .0) (s .pre .1) (l .distances) (l .layer) (l .seen) (l .d) (l .inv) (omega arith))
+
+loop-again : tie.Need-loop-again Inv-loop μ-loop
+loop-again c = let l = c .before .before .before .before .loop in let s = c .before .before .before .before .before in
+    breadth-step (out-of (s .args .adjacency .now)) (s .args .start) (s .pre .0) (s .pre .1) (l .distances) (l .layer) (l .seen) (l .d) (l .inv)
+    (c .before .mark .last .0) (c .spread .result) (c .before .mark .ensures) (omega (arith, c .spread .ok)) (c .spread .ensures)
+
+returns : tie.Need-returns Inv-loop μ-loop
+returns c = let l = c .before .loop in let s = c .before .before in
+    breadth-end (out-of (s .args .adjacency .now)) (s .args .start) (s .pre .0) (s .pre .1) (l .distances) (l .layer) (l .seen) (l .d) (l .inv) (omega arith)
+
+pub distances-spec : {M : Type 1} → statement M
+distances-spec =
+    tie.close
+    (tie.spec
+    Inv-loop
+    μ-loop
+    sub-layer
+    shl-layer
+    loop-holds
+    mark-requires
+    spread-requires
+    add-d
+    loop-less
+    loop-again
+    returns)

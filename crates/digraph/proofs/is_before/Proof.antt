@@ -1,0 +1,57 @@
+-- The test for one arc before y compares the distances and looks for the arc. Assumes nothing.
+use borrow.Author.Needs.{needs}
+use Rattle.digraph.specs.Adjacency.{out-of}
+use Rattle.digraph.specs.Layers.{distance-of}
+use Rattle.digraph.proofs.Backward.{before-close, before-far}
+use Rattle.digraph.proofs.is_before.Statement.{statement}
+use Rattle.digraph.proofs.is_before.Tie as tie
+
+distance-requires : tie.Need-distance-requires
+distance-requires c κs = search needs
+
+cast-near : tie.Need-cast-near
+cast-near c = search needs
+
+distance-requires-2 : tie.Need-distance-requires-2
+distance-requires-2 c κs = search needs
+
+cast-far : tie.Need-cast-far
+cast-far c = search needs
+
+add-if1 : tie.Need-add-if1
+add-if1 c = search needs
+
+arcs-requires : tie.Need-arcs-requires
+arcs-requires c κs = search needs
+
+sub-result : tie.Need-sub-result
+sub-result c = search needs
+
+shr-result : tie.Need-shr-result
+shr-result c = search needs
+
+returns : tie.Need-returns
+returns c = let s = c .before .before .before .before in let a = s .args in
+    before-close (out-of (a .adjacency .now)) (distance-of (a .distances .now)) (a .y) (a .x)
+    (c .before .before .before .distance .result) (c .before .before .distance2 .result) (c .arcs .result)
+    (c .before .before .before .distance .ensures) (c .before .before .distance2 .ensures) (c .before .if1 .taken) (c .arcs .ensures)
+
+returns-2 : tie.Need-returns-2
+returns-2 c = let a = c .before .before .before .args in
+    before-far (out-of (a .adjacency .now)) (distance-of (a .distances .now)) (a .y) (a .x)
+    (c .before .before .distance .result) (c .before .distance2 .result) (c .before .before .distance .ensures) (c .before .distance2 .ensures) (c .if1 .left)
+
+pub is-before-spec : {M : Type 1} → statement M
+is-before-spec =
+    tie.close
+    (tie.spec
+    distance-requires
+    cast-near
+    distance-requires-2
+    cast-far
+    add-if1
+    arcs-requires
+    sub-result
+    shr-result
+    returns
+    returns-2)

@@ -1,0 +1,37 @@
+-- A search by whole layers of junctions, and one step back on a walk with fewest arcs. Assumes nothing: these are definitions.
+use mathlib.Core.Path.{_≡_}
+use mathlib.Core.Bool.{Bool, true, _&&_, cond}
+use mathlib.Core.List.{List}
+use Prim.Native.Nat.{ℕ, suc, _+_, _-_, _≤_, _<_}
+use lib.Dec.{eqb}
+use lib.ListN.{getD, length}
+use Rattle.junctions.specs.Sets.{holds}
+
+-- the distance of junction j, from a list that has it at place j - 1
+abbrev pub distance-of : List ℕ → ℕ → ℕ
+distance-of distances j = getD distances (j - 1) 0
+
+-- the list `after` has d at the set's junctions, of 64, and is else as before
+pub record Marked (before after : List ℕ) (set d : ℕ) : Type 0 where
+  pub size : length after ≡ 64
+  pub entry : (j : ℕ) → 1 ≤ j → j ≤ 64 → distance-of after j ≡ cond (holds set j) d (distance-of before j)
+
+-- after d layers, of which the last is not yet marked: `fewest` are the true distances, `dist` those marked so far
+pub record Layered (n : ℕ) (fewest dist : ℕ → ℕ) (layer seen d : ℕ) : Type 0 where
+  pub layer-in : (j : ℕ) → 1 ≤ j → j ≤ n → holds layer j ≡ true → (fewest j ≡ d) × (d < n)
+  pub layer-has : (j : ℕ) → 1 ≤ j → j ≤ n → fewest j ≡ d → d < n → holds layer j ≡ true
+  pub seen-in : (j : ℕ) → 1 ≤ j → j ≤ n → holds seen j ≡ true → fewest j ≤ d
+  pub seen-has : (j : ℕ) → 1 ≤ j → j ≤ n → fewest j ≤ d → fewest j < n → holds seen j ≡ true
+  pub marked : (j : ℕ) → 1 ≤ j → j ≤ n → fewest j < d → dist j ≡ fewest j
+  pub unmarked : (j : ℕ) → 1 ≤ j → j ≤ n → d ≤ fewest j → dist j ≡ n
+
+-- junction x is one arc before y, and one less far
+pub record Before (n : ℕ) (out dist : ℕ → ℕ) (y x : ℕ) : Type 0 where
+  pub from-one : 1 ≤ x
+  pub to-last : x ≤ n
+  pub closer : suc (dist x) ≡ dist y
+  pub arc : holds (out x) y ≡ true
+
+-- the same as a test
+unfoldable pub before-test : (out dist : ℕ → ℕ) → (y x : ℕ) → Bool
+before-test out dist y x = eqb (dist x + 1) (dist y) && holds (out x) y

@@ -1,0 +1,8 @@
+pub mod Reach
+pub mod Paths
+pub mod Closure
+pub mod Adjacency
+pub mod Search
+pub mod Distances
+pub mod Layers
+pub mod Turns

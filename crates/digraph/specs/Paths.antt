@@ -1,0 +1,24 @@
+-- Fewest arcs over an adjacency, and walks that use no more. Assumes nothing: these are definitions.
+use mathlib.Core.Path.{_≡_}
+use mathlib.Core.Bool.{true}
+use mathlib.Core.List.{List, [], _∷_}
+use Prim.Native.Nat.{ℕ, suc, _≤_, _<_}
+use Rattle.junctions.specs.Sets.{holds}
+
+-- FEWEST ARCS from the start to each junction; n or more where no arcs lead there
+pub record Distances (n : ℕ) (out : ℕ → ℕ) (start : ℕ) (dist : ℕ → ℕ) : Type 0 where
+  pub here : dist start ≡ 0
+  pub alone : (y : ℕ) → 1 ≤ y → y ≤ n → dist y ≡ 0 → y ≡ start
+  pub ahead : (x y : ℕ) → 1 ≤ x → x ≤ n → 1 ≤ y → y ≤ n → holds (out x) y ≡ true → dist y ≤ suc (dist x)
+  pub behind : (y : ℕ) → 1 ≤ y → y ≤ n → 0 < dist y → dist y < n →
+      (x : ℕ) × (1 ≤ x) × (x ≤ n) × (suc (dist x) ≡ dist y) × (holds (out x) y ≡ true)
+
+-- A WALK from x over the listed junctions to y
+unfoldable pub Walk : (n : ℕ) → (out : ℕ → ℕ) → (x : ℕ) → List ℕ → (y : ℕ) → Type 0
+Walk n out x [] y = x ≡ y
+Walk n out x (w ∷ ws) y = (1 ≤ w) × (w ≤ n) × (holds (out x) w ≡ true) × Walk n out w ws y
+
+-- a walk on which the distance grows by one at each step, so that no walk to its end has fewer arcs
+unfoldable pub Climb : (n : ℕ) → (out dist : ℕ → ℕ) → (x : ℕ) → List ℕ → (y : ℕ) → Type 0
+Climb n out dist x [] y = x ≡ y
+Climb n out dist x (w ∷ ws) y = (1 ≤ w) × (w ≤ n) × (holds (out x) w ≡ true) × (dist w ≡ suc (dist x)) × Climb n out dist w ws y
