@@ -1,0 +1,3 @@
+pub mod Hall
+pub mod File
+pub mod Plan
