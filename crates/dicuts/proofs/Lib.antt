@@ -1,0 +1,6 @@
+pub mod Choices
+pub mod Shores
+pub mod Exchange
+pub mod Swapping
+pub mod Uncross
+pub mod Tight

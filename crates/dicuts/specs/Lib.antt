@@ -1,0 +1,4 @@
+pub mod Shores
+pub mod Arcs
+pub mod Crossing
+pub mod Parts
