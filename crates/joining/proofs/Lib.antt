@@ -1,0 +1,9 @@
+pub mod Sealed
+pub mod Passes
+pub mod Reached
+pub mod Joining
+pub mod Joins
+pub mod Connected
+pub mod Sound
+pub mod Accepted
+pub mod Promise

@@ -1,0 +1,28 @@
+-- The statements of specs/Promise.antt, proved. Assumes nothing.
+use mathlib.Core.Path.{ap}
+use Rattle.hall.specs.Hall.{count, reached}
+use Rattle.hall.specs.File.{hall-in, all-numbers, Refusal, refusal}
+use Rattle.joining.specs.Promise.{Joins-exactly, Missed-cut, Unjoined-exactly}
+use Rattle.joining.proofs.Sound.{sound-ranged, sound-unconnected}
+use Rattle.joining.proofs.Joins.{meets-joining, joining-meets, joins-joining, joining-joins, missed-shore}
+use Rattle.joining.proofs.Connected.{unconnected-split, split-unconnected}
+use Rattle.joining.proofs.Accepted.{accepted-ranged, nine-unconnected}
+
+pub joins-exactly : Joins-exactly
+unfolding Joins-exactly
+joins-exactly bs c acc ch =
+    let h = hall-in bs in
+    let rg = accepted-ranged bs acc in
+    (λ e. joining-meets h c ch (joins-joining h rg c e), λ e. joining-joins h rg c (meets-joining h c ch e))
+
+pub missed-cut : Missed-cut
+unfolding Missed-cut
+missed-cut bs c s acc ch e = missed-shore (hall-in bs) (accepted-ranged bs acc) c s ch e
+
+-- the set is what junction 1 reaches, directions ignored
+pub unjoined-exactly : Unjoined-exactly
+unfolding Unjoined-exactly refusal
+unjoined-exactly bs g =
+    let h = hall-in bs in
+    let rg = sound-ranged bs g in
+    (λ e. (reached h (all-numbers (count h) 1) 1, unconnected-split h rg (nine-unconnected bs g (ap (λ (x : Refusal). x .number) e))), λ s w. sound-unconnected bs g (split-unconnected h rg s w))

@@ -1,0 +1,4 @@
+pub mod Sound
+pub mod Sealed
+pub mod Split
+pub mod Promise
