@@ -1,0 +1,4 @@
+pub mod Cross
+pub mod Laminar
+pub mod CrossFree
+pub mod Few
