@@ -1,0 +1,9 @@
+pub mod Arcs
+pub mod Raise
+pub mod Slack
+pub mod Weights
+pub mod Flip
+pub mod Repair
+pub mod Compare
+pub mod Priced
+pub mod Same
