@@ -1,0 +1,125 @@
+-- Sets of rows and choices are the same thing: each set is listed as a choice with its rows as members, and a choice is the list of its members. Assumes nothing.
+use mathlib.Core.Path.{_≡_, refl, sym, ap, _∙_}
+use mathlib.Core.Bool.{Bool, true, false, _&&_}
+use mathlib.Core.List.{List, [], _∷_}
+use mathlib.Core.Logic.{⊎-elim}
+use Prim.Native.Nat.{ℕ, zero, suc, _+_, _≤_, _<_}
+use native.Mathlib.Omega.{arith}
+use lib.Dec.{eqb, leb}
+use borrow.Author.Tests.{le-leb, eq-eqb, eqb-true, eqb-false}
+use Rattle.laws.proofs.Booleans.{by-bool, clash, and-i, or-cases, bool-ext}
+use Rattle.laws.proofs.Numbers.{compare-numbers}
+use Rattle.hall.specs.Hall.{Hall, count, ascends-from, is-choice, member}
+use Rattle.dicuts.proofs.Choices.{ascends-low, ascends-high, ascends-rest, ascends-skips}
+use Rattle.choicelists.specs.Listed.{passing, listed}
+
+-- members of an ascending list
+module _ (l : ℕ) where
+  pub ascends-cons : (a i : ℕ) (is : List ℕ) → a ≤ i → i ≤ l → ascends-from (suc i) l is ≡ true → ascends-from a l (i ∷ is) ≡ true
+  unfolding ascends-from
+  ascends-cons a i is low high e =
+      and-i (leb a i && leb i l) (ascends-from (suc i) l is) (and-i (leb a i) (leb i l) (le-leb a i low) (le-leb i l high)) e
+
+  pub ascends-earlier : (a b : ℕ) (c : List ℕ) → a ≤ b → ascends-from b l c ≡ true → ascends-from a l c ≡ true
+  unfolding ascends-from
+  ascends-earlier a b [] h e = refl
+  ascends-earlier a b (i ∷ is) h e =
+      ascends-cons a i is (omega (arith, ascends-low b l i is e)) (ascends-high b l i is e) (ascends-rest b l i is e)
+
+  pub ascends-members : (a : ℕ) (c : List ℕ) (v : ℕ) → ascends-from a l c ≡ true → member v c ≡ true → (a ≤ v) × (v ≤ l)
+  unfolding member
+  ascends-members a [] v e t = clash t refl
+  ascends-members a (i ∷ is) v e t =
+      let low = ascends-low a l i is e in
+      let high = ascends-high a l i is e in
+      ⊎-elim (λ (q : eqb i v ≡ true). omega (arith, eqb-true i v q))
+      (λ (q : member v is ≡ true). let r = ascends-members (suc i) is v (ascends-rest a l i is e) q in (omega arith, r .1))
+      (or-cases (eqb i v) (member v is) t)
+
+  pub member-head : (x : ℕ) (xs : List ℕ) → member x (x ∷ xs) ≡ true
+  unfolding member
+  member-head x xs = rw (eq-eqb x x refl)
+
+  pub member-under : (a y : ℕ) (ys : List ℕ) → ascends-from a l (y ∷ ys) ≡ true → (x : ℕ) → x < y → member x (y ∷ ys) ≡ false
+  member-under a y ys e x h = ascends-skips y l (y ∷ ys) x (ascends-cons y y ys (omega arith) (ascends-high a l y ys e) (ascends-rest a l y ys e)) h
+
+  -- with the same first number, what holds the same numbers holds the same after it
+  pub members-after : (x : ℕ) (xs ys : List ℕ) → ascends-from (suc x) l xs ≡ true → ascends-from (suc x) l ys ≡ true → (i : ℕ)
+      → member i (x ∷ xs) ≡ member i (x ∷ ys) → member i xs ≡ member i ys
+  unfolding member
+  members-after x xs ys p q i f =
+      by-bool (eqb x i)
+      (λ e. let same = eqb-true x i e in ascends-skips (suc x) l xs i p (omega arith) ∙ sym (ascends-skips (suc x) l ys i q (omega arith)))
+      (λ e. rw e at f)
+
+  -- two ascending lists with the same members are the same
+  pub members-ext : (a b : ℕ) (c d : List ℕ) → ascends-from a l c ≡ true → ascends-from b l d ≡ true → ((i : ℕ) → member i c ≡ member i d) → c ≡ d
+  unfolding member
+  members-ext a b [] [] p q f = refl
+  members-ext a b [] (y ∷ ys) p q f = clash (member-head y ys) (sym (f y))
+  members-ext a b (x ∷ xs) [] p q f = clash (member-head x xs) (f x)
+  members-ext a b (x ∷ xs) (y ∷ ys) p q f =
+      let up = members-ext (suc x) (suc y) xs ys (ascends-rest a l x xs p) (ascends-rest b l y ys q) in
+      ⊎-elim
+      (λ (e : x ≡ y).
+      let r : ascends-from (suc x) l ys ≡ true = rw e (ascends-rest b l y ys q) in
+      let g : (i : ℕ) → member i (x ∷ xs) ≡ member i (x ∷ ys) = λ i. f i ∙ ap (λ (z : ℕ). member i (z ∷ ys)) (sym e) in
+      let tails : xs ≡ ys = up (λ i. members-after x xs ys (ascends-rest a l x xs p) r i (g i)) in
+      cc)
+      (⊎-elim (λ (h : x < y). clash (member-head x xs) (f x ∙ member-under b y ys q x h))
+      (λ (h : y < x). clash (f y ∙ member-head y ys) (member-under a x xs p y h)))
+      (compare-numbers x y)
+
+-- the numbers that pass a test
+pub passing-ascends : (left a l : ℕ) (F : ℕ → Bool) → a + left ≤ suc l → ascends-from a l (passing left a F) ≡ true
+unfolding passing ascends-from
+passing-ascends zero a l F h = refl
+passing-ascends (suc k) a l F h =
+    let rest = passing-ascends k (suc a) l F (omega arith) in
+    by-bool (F a) (λ e. rw e (ascends-cons l a a (passing k (suc a) F) (omega arith) (omega arith) rest))
+    (λ e. rw e (ascends-earlier l a (suc a) (passing k (suc a) F) (omega arith) rest))
+
+pub passing-member : (left a : ℕ) (F : ℕ → Bool) (i : ℕ) → a ≤ i → i < a + left → member i (passing left a F) ≡ F i
+unfolding passing member
+passing-member zero a F i low high = absurd (omega arith)
+passing-member (suc k) a F i low high =
+    by-bool (eqb a i)
+    (λ q.
+    let here : a ≡ i = eqb-true a i q in
+    by-bool (F a) (λ e. rw (e, q) (sym e ∙ ap F here))
+    (λ e. rw e (ascends-skips (suc a) (a + k) (passing k (suc a) F) i (passing-ascends k (suc a) (a + k) F (omega arith)) (omega arith) ∙ sym e ∙ ap F here)))
+    (λ q.
+    let up = passing-member k (suc a) F i (omega (arith, eqb-false a i q)) (omega arith) in
+    by-bool (F a) (λ e. rw (e, q) up) (λ e. rw e up))
+
+module _ (h : Hall) where
+  pub listed-choice : (F : ℕ → Bool) → is-choice h (listed h F) ≡ true
+  unfolding is-choice listed
+  listed-choice F = passing-ascends (count h) 1 (count h) F (omega arith)
+
+  pub listed-member : (F : ℕ → Bool) (i : ℕ) → 1 ≤ i → i ≤ count h → member i (listed h F) ≡ F i
+  unfolding listed
+  listed-member F i low high = passing-member (count h) 1 F i low (omega arith)
+
+  pub choice-members : (c : List ℕ) → is-choice h c ≡ true → (i : ℕ) → member i c ≡ true → (1 ≤ i) × (i ≤ count h)
+  unfolding is-choice
+  choice-members c e i t = ascends-members (count h) 1 c i e t
+
+  -- two choices with the same members are the same
+  pub choices-ext : (c d : List ℕ) → is-choice h c ≡ true → is-choice h d ≡ true → ((i : ℕ) → 1 ≤ i → i ≤ count h → member i c ≡ member i d) → c ≡ d
+  unfolding is-choice
+  choices-ext c d p q f =
+      members-ext (count h) 1 1 c d p q
+      (λ i. bool-ext (member i c) (member i d)
+      (λ t. let r = choice-members c p i t in sym (f i (r .0) (r .1)) ∙ t)
+      (λ t. let r = choice-members d q i t in f i (r .0) (r .1) ∙ t))
+
+  -- a choice is the list of its members
+  pub listed-members : (c : List ℕ) → is-choice h c ≡ true → listed h (λ i. member i c) ≡ c
+  listed-members c e = choices-ext (listed h (λ i. member i c)) c (listed-choice (λ i. member i c)) e (listed-member (λ i. member i c))
+
+  -- the rows alone decide
+  pub listed-ext : (F G : ℕ → Bool) → ((i : ℕ) → 1 ≤ i → i ≤ count h → F i ≡ G i) → listed h F ≡ listed h G
+  listed-ext F G f =
+      choices-ext (listed h F) (listed h G) (listed-choice F) (listed-choice G)
+      (λ i low high. listed-member F i low high ∙ f i low high ∙ sym (listed-member G i low high))

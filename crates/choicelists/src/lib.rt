@@ -1,0 +1,1 @@
+// Sets of rows as choices, and choices as sets of rows. No code.

@@ -1,0 +1,20 @@
+-- What a choice meets of weighted cuts, and weights that costs can carry. Assumes nothing: these are definitions.
+use mathlib.Core.Path.{_≡_}
+use mathlib.Core.Bool.{true}
+use mathlib.Core.List.{List, [], _∷_}
+use Prim.Native.Nat.{ℕ, _+_, _*_, _≤_}
+use Rattle.hall.specs.Hall.{Hall, row, count, is-cut, entering}
+use Rattle.hall.specs.Plan.{Cut, load}
+
+-- the weights of the cuts, each counted as often as a row of the list enters its shore
+unfoldable pub weight-met : Hall → List Cut → List ℕ → ℕ
+weight-met h [] d = 0
+weight-met h (k ∷ ks) d = k .weight * entering h (k .shore) d + weight-met h ks d
+
+-- the list meets every directed cut
+unfoldable pub Meeting : Hall → List ℕ → Type 0
+Meeting h d = (s : ℕ) → is-cut h s ≡ true → 1 ≤ entering h s d
+
+-- the load of every row is within its cost
+unfoldable pub Carried : Hall → (cost : ℕ → ℕ) → List Cut → Type 0
+Carried h cost ks = (i : ℕ) → 1 ≤ i → i ≤ count h → load ks (row h i) ≤ cost i

@@ -1,0 +1,4 @@
+pub mod Precedes
+pub mod Least
+pub mod Ranked
+pub mod Promise
