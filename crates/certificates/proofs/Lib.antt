@@ -1,0 +1,13 @@
+pub mod Pieces
+pub mod PieceSums
+pub mod Components
+pub mod Good
+pub mod Classes
+pub mod Uncrossed
+pub mod Levels
+pub mod Listing
+pub mod Certificate
+pub mod Beside
+pub mod Weighing
+pub mod First
+pub mod Promise

@@ -1,0 +1,16 @@
+-- The statement of specs/Promise.antt, proved: repair gives a potential for the prices, and its cuts stand beside the first choice. Assumes nothing.
+use Rattle.hall.specs.Hall.{row}
+use Rattle.hall.specs.File.{hall-in}
+use Rattle.joining.proofs.Accepted.{accepted-ranged, accepted-linked}
+use Rattle.potentials.proofs.Repair.{repaired-there}
+use Rattle.certificates.specs.Promise.{Cuts-there}
+use Rattle.certificates.proofs.First.{beside-first-there}
+
+pub cuts-there : Cuts-there
+unfolding Cuts-there
+cuts-there bs c acc first =
+    let h = hall-in bs in
+    let ranged = accepted-ranged bs acc in
+    let linked = accepted-linked bs acc in
+    let w = repaired-there h ranged (λ i. row h i .price) linked in
+    beside-first-there h ranged linked c first (w .0) (w .1) (w .2)

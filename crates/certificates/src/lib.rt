@@ -1,0 +1,1 @@
+// Components, classes and the cuts beside a choice: theory alone, no functions.

@@ -1,0 +1,53 @@
+-- A joining set of rows of least ranked cost, all of them decided, is the first choice when it is listed. Assumes nothing.
+use mathlib.Core.Path.{_≡_, refl, _∙_}
+use mathlib.Core.Bool.{Bool, true}
+use mathlib.Core.List.{List}
+use mathlib.Core.Logic.{⊎-elim}
+use Prim.Native.Nat.{ℕ, _≤_, _<_}
+use native.Mathlib.Omega.{arith}
+use Rattle.laws.proofs.Numbers.{compare-numbers}
+use Rattle.hall.specs.Hall.{Hall, count, is-choice, member, joins}
+use Rattle.hall.specs.Plan.{First, earlier, goes-before}
+use Rattle.dicuts.specs.Shores.{Ranged, once, Joining}
+use Rattle.dicuts.proofs.Choices.{over}
+use Rattle.joining.proofs.Joining.{joining-mono}
+use Rattle.joining.proofs.Joins.{joins-joining, joining-joins}
+use Rattle.potentials.specs.Potential.{cost}
+use Rattle.order.specs.Ranked.{ranked}
+use Rattle.order.proofs.Dictionary.{earlier-total}
+use Rattle.order.proofs.Ranked.{ranked-same, ranked-before, dictionary-before}
+use Rattle.choicelists.specs.Listed.{listed}
+use Rattle.choicelists.proofs.Listed.{listed-choice, listed-member}
+use Rattle.choicelists.proofs.Totals.{over-choice, over-listed}
+use Rattle.choicelists.proofs.Leads.{leads-ext, earlier-leads}
+use Rattle.deciding.specs.Decided.{Decided}
+
+module _ (h : Hall) (ranged : Ranged h) (few : count h ≤ 256) (F : ℕ → Bool) (joining : Joining h (once F))
+    (least : (G : ℕ → Bool) → Joining h (once G) → cost h (ranked h) F ≤ cost h (ranked h) G) (decided : Decided h (ranked h) F (count h)) where
+  listed-joins : joins h (listed h F) ≡ true
+  listed-joins =
+      joining-joins h ranged (listed h F)
+      (joining-mono h F (λ i. member i (listed h F)) (λ i low high e. listed-member h F i low high ∙ e) joining)
+
+  goes-first : (d : List ℕ) → is-choice h d ≡ true → joins h d ≡ true → (listed h F ≡ d → ⊥) → goes-before h (listed h F) d ≡ true
+  unfolding cost Decided
+  goes-first d choice joins-d ne =
+      let c : List ℕ = listed h F in
+      let G : ℕ → Bool = λ i. member i d in
+      let joining-d : Joining h (once G) = joins-joining h ranged d joins-d in
+      let below = least G joining-d in
+      let cost-c = over-listed h (ranked h) F in
+      let cost-d = over-choice h (ranked h) d choice in
+      ⊎-elim
+      (λ (e : over (ranked h) c ≡ over (ranked h) d).
+      ⊎-elim (λ (q : c ≡ d). absurd (ne q))
+      (⊎-elim (λ (t : earlier c d ≡ true). dictionary-before h few c d (listed-choice h F) choice e t)
+      (λ (t : earlier d c ≡ true).
+      absurd (decided G joining-d (omega arith) (leads-ext (count h) (λ i low high. refl) (listed-member h F) (earlier-leads h d c choice (listed-choice h F) t)))))
+      (earlier-total c d (ranked-same h few c d (listed-choice h F) choice e .1)))
+      (⊎-elim (λ (l : over (ranked h) c < over (ranked h) d). ranked-before h few c d (listed-choice h F) choice l)
+      (λ (l : over (ranked h) d < over (ranked h) c). absurd (omega arith)))
+      (compare-numbers (over (ranked h) c) (over (ranked h) d))
+
+  pub decided-first : First h (listed h F)
+  decided-first = record { choice = listed-choice h F; joining = listed-joins; before = goes-first }

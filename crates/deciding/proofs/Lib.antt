@@ -1,0 +1,4 @@
+pub mod Decided
+pub mod First
+pub mod Opened
+pub mod Deciding
