@@ -1,0 +1,46 @@
+-- The record of a hall holds its columns. Assumes nothing.
+use mathlib.Core.Path.{_≡_, refl}
+use Prim.Native.Nat.{ℕ, _-_, _≤_}
+use native.Mathlib.Omega.{arith}
+use lib.ListN.{length}
+use Rattle.hall.specs.Hall.{Hall, Row, row, row-of, count}
+use Rattle.dicuts.specs.Shores.{Ranged}
+use Rattle.columns.specs.Columns.{at, Ends, Columns}
+use Rattle.columns.proofs.Ranged.{ranged-ends}
+use Rattle.hallfile.specs.declared.HallRecord.{HallRecord}
+use Rattle.hallfile.specs.Record.{column, record-of}
+use Rattle.hallfile.proofs.Columns.{column-at, padded-length}
+
+column-row : (h : Hall) (f : Row → ℕ) (i : ℕ) → count h ≤ 256 → 1 ≤ i → i ≤ count h → at (column f (h .rows)) i ≡ f (row h i)
+unfolding row count
+column-row h f i few l m = column-at f (h .rows) (i - 1) (row-of 0 0 0) (omega arith) (omega arith)
+
+module _ (h : Hall) (few : count h ≤ 256) where
+  own-columns : Columns h (record-of h .n) (record-of h .count) (record-of h .tails) (record-of h .heads)
+  unfolding record-of
+  own-columns =
+      record {
+        junctions = refl;
+        rows = refl;
+        tail = λ i l m. column-row h (λ r. r .from) i few l m;
+        head = λ i l m. column-row h (λ r. r .to) i few l m;
+      }
+
+  own-prices : (i : ℕ) → 1 ≤ i → i ≤ count h → at (record-of h .prices) i ≡ row h i .price
+  unfolding record-of
+  own-prices i l m = column-row h (λ r. r .price) i few l m
+
+  module _ (x : HallRecord) (is : x ≡ record-of h) where
+    pub record-columns : Columns h (x .n) (x .count) (x .tails) (x .heads)
+    record-columns = rw is own-columns
+
+    pub record-prices : (i : ℕ) → 1 ≤ i → i ≤ count h → at (x .prices) i ≡ row h i .price
+    record-prices = rw is own-prices
+
+    pub record-ends : Ranged h → h .n ≤ 64 → Ends (x .n) (x .count) (x .tails) (x .heads)
+    record-ends rg size =
+        ranged-ends h (x .n) (x .count) (x .tails) (x .heads) (omega (arith, record-columns .junctions)) (omega (arith, record-columns .rows)) rg record-columns
+
+    pub record-lengths : (length (x .tails) ≡ 256) × (length (x .heads) ≡ 256) × (length (x .prices) ≡ 256)
+    unfolding record-of column
+    record-lengths = rw is (padded-length 256 _, padded-length 256 _, padded-length 256 _)

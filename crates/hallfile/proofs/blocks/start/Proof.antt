@@ -1,0 +1,21 @@
+-- `hallfile::blocks::start` meets its contract: a block's offset is a number of four bytes. Assumes nothing.
+use borrow.Author.Needs.{needs}
+use Rattle.hall.specs.File.{offset}
+use Rattle.hallfile.proofs.blocks.start.Statement.{statement}
+use Rattle.hallfile.proofs.blocks.start.Tie as tie
+
+mul-number : tie.Need-mul-number
+mul-number c = search needs
+
+add-number : tie.Need-add-number
+add-number c = search needs
+
+number-requires : tie.Need-number-requires
+number-requires c κs = search needs
+
+returns : tie.Need-returns
+unfolding offset
+returns c = c .number .ensures
+
+pub start-spec : {M : Type 1} → statement M
+start-spec = tie.close (tie.spec mul-number add-number number-requires returns)

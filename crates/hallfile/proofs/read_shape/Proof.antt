@@ -1,0 +1,99 @@
+-- `hallfile::read_shape` meets its contract: the tests stand in the fixed order. Assumes nothing.
+use mathlib.Core.Path.{refl, sym, _∙_}
+use native.Mathlib.Omega.{arith}
+use borrow.Author.Tests.{not-true, not-false}
+use borrow.Author.Needs.{needs}
+use Rattle.hall.specs.File.{refusal}
+use Rattle.hallfile.specs.declared.Kind.the-variants.{FileLength, JunctionCount, Blocks, RowCount}
+use Rattle.hallfile.specs.Kinds.{refusal-of}
+use Rattle.hallfile.proofs.Reply.{reply-kind}
+use Rattle.hallfile.proofs.Order.{length-low, junctions-high, table-of, refuse-length, refuse-junctions, refuse-table, refuse-count, refuse-rows, blocks-is, hall-is}
+use Rattle.hallfile.proofs.read_shape.Statement.{statement}
+use Rattle.hallfile.proofs.read_shape.Tie as tie
+
+refused-requires : tie.Need-refused-requires
+refused-requires c κs = search needs
+
+returns : tie.Need-returns
+unfolding refusal-of refusal
+returns c = let file = c .before .before .before .args .file .now in
+    reply-kind FileLength _ _ (c .refused .result) (c .refused .ensures) (refuse-length file (not-true _ (c .before .if1 .taken))) refl
+
+number-requires : tie.Need-number-requires
+number-requires c κs = let low = length-low (c .before .before .args .file .now) (not-false _ (c .if1 .left)) in (omega arith, omega arith)
+
+refused-requires-2 : tie.Need-refused-requires-2
+refused-requires-2 c κs = search needs
+
+returns-2 : tie.Need-returns-2
+unfolding refusal-of refusal
+returns-2 c = let m = c .before .before in let file = c .before .before .before .before .before .args .file .now in
+    reply-kind JunctionCount _ _ (c .refused2 .result) (c .refused2 .ensures)
+    (refuse-junctions file (m .number .result) (m .number .ensures .0) (not-false _ (m .before .if1 .left)) (not-true _ (c .before .if2 .taken))) refl
+
+number-requires-2 : tie.Need-number-requires-2
+number-requires-2 c κs = let m = c .before in let low = length-low (m .before .before .before .args .file .now) (not-false _ (m .before .if1 .left)) in (omega arith, omega arith)
+
+table-fits-requires : tie.Need-table-fits-requires
+table-fits-requires c κs = search needs
+
+refused-requires-3 : tie.Need-refused-requires-3
+refused-requires-3 c κs = search needs
+
+returns-3 : tie.Need-returns-3
+unfolding refusal-of refusal
+returns-3 c = let t = c .before .before in let m = t .before .before .before in let file = m .before .before .before .args .file .now in
+    reply-kind Blocks _ _ (c .refused3 .result) (c .refused3 .ensures)
+    (refuse-table file (m .number .result) (m .number .ensures .0) (not-false _ (m .before .if1 .left))
+    (t .before .number2 .result) (t .before .number2 .ensures .0) (not-false _ (t .before .before .if2 .left))
+    (sym (t .table-fits .ensures) ∙ not-true _ (c .before .if3 .taken))) refl
+
+row-count-requires : tie.Need-row-count-requires
+row-count-requires c κs = let t = c .before in let file = t .before .before .before .before .before .before .args .file .now in
+    let table = table-of (t .before .number2 .result) file (sym (t .table-fits .ensures) ∙ not-false _ (c .if3 .left)) in (table .few, table .fits)
+
+refused-requires-4 : tie.Need-refused-requires-4
+refused-requires-4 c κs = search needs
+
+returns-4 : tie.Need-returns-4
+unfolding refusal-of refusal
+returns-4 c = let k = c .before .before in let t = k .before .before in let m = t .before .before .before in let file = m .before .before .before .args .file .now in
+    reply-kind RowCount _ _ (c .refused4 .result) (c .refused4 .ensures)
+    (refuse-count file (m .number .result) (m .number .ensures .0) (not-false _ (m .before .if1 .left))
+    (t .before .number2 .result) (t .before .number2 .ensures .0) (not-false _ (t .before .before .if2 .left))
+    (k .row-count .result) (k .row-count .ensures) (sym (t .table-fits .ensures) ∙ not-false _ (k .before .if3 .left)) (c .before .if4 .taken)) refl
+
+read-rows-requires : tie.Need-read-rows-requires
+read-rows-requires c κs = let k = c .before in let t = k .before .before in let m = t .before .before .before in let file = m .before .before .before .args .file .now in
+    let is = blocks-is file (t .before .number2 .result) (t .before .number2 .ensures .0) in (
+      rw is (table-of (t .before .number2 .result) file (sym (t .table-fits .ensures) ∙ not-false _ (k .before .if3 .left))),
+      rw is (sym (k .row-count .ensures)),
+      c .if4 .left,
+      junctions-high (m .number .result) (not-false _ (t .before .before .if2 .left)),
+    )
+
+returns-5 : tie.Need-returns-5
+returns-5 c = let k = c .before .before in let t = k .before .before in let m = t .before .before .before in let file = m .before .before .before .args .file .now in
+    let rows = refuse-rows file (m .number .result) (m .number .ensures .0) (not-false _ (m .before .if1 .left))
+    (t .before .number2 .result) (t .before .number2 .ensures .0) (not-false _ (t .before .before .if2 .left))
+    (k .row-count .result) (k .row-count .ensures) (sym (t .table-fits .ensures) ∙ not-false _ (k .before .if3 .left)) (c .before .if4 .left) in
+    rw (rows, sym (hall-is file (m .number .result) (m .number .ensures .0))) (c .read-rows .ensures)
+
+pub read-shape-spec : {M : Type 1} → statement M
+read-shape-spec =
+    tie.close
+    (tie.spec
+    refused-requires
+    returns
+    number-requires
+    refused-requires-2
+    returns-2
+    number-requires-2
+    table-fits-requires
+    refused-requires-3
+    returns-3
+    row-count-requires
+    refused-requires-4
+    returns-4
+    read-rows-requires
+    returns-5)

@@ -1,0 +1,29 @@
+-- `hallfile::rows::lane_refusal` meets its contract, test by test. Assumes nothing.
+use mathlib.Core.Path.{sym}
+use Rattle.hall.specs.Hall.{row-of}
+use Rattle.hallfile.specs.Kinds.{refusal-of}
+use Rattle.hallfile.proofs.Refusals.{refuse-ends, refuse-loop, refuse-price, refuse-none}
+use Rattle.hallfile.proofs.rows.lane_refusal.Statement.{statement}
+use Rattle.hallfile.proofs.rows.lane_refusal.Tie as tie
+
+returns : tie.Need-returns
+unfolding refusal-of row-of
+returns c = let a = c .before .args in let l = a .lane in sym (refuse-ends (a .i) (a .n) (row-of (l .from) (l .to) (l .price)) (c .if1 .taken))
+
+returns-2 : tie.Need-returns-2
+unfolding refusal-of row-of
+returns-2 c = let a = c .before .before .args in let l = a .lane in
+    sym (refuse-loop (a .i) (a .n) (row-of (l .from) (l .to) (l .price)) (c .before .if1 .left) (c .if2 .taken))
+
+returns-3 : tie.Need-returns-3
+unfolding refusal-of row-of
+returns-3 c = let a = c .before .before .before .before .args in let l = a .lane in
+    sym (refuse-price (a .i) (a .n) (row-of (l .from) (l .to) (l .price)) (c .before .before .before .if1 .left) (c .before .before .if2 .left) (c .if3 .taken))
+
+returns-4 : tie.Need-returns-4
+unfolding refusal-of row-of
+returns-4 c = let a = c .before .before .before .before .args in let l = a .lane in
+    sym (refuse-none (a .i) (a .n) (row-of (l .from) (l .to) (l .price)) (c .before .before .before .if1 .left) (c .before .before .if2 .left) (c .if3 .left))
+
+pub lane-refusal-spec : {M : Type 1} → statement M
+lane-refusal-spec = tie.close (tie.spec returns returns-2 returns-3 returns-4)

@@ -1,0 +1,154 @@
+-- `hallfile::rows::read_rows` meets its contract. The loop's invariant is Progress: the rows before place i are stored and fine. Assumes nothing.
+use mathlib.Core.Bool.{true}
+use mathlib.Core.Path.{_≡_, refl, sym, ap, _∙_}
+use Prim.Native.Nat.{_+_, _-_, _≤_}
+use native.Mathlib.Omega.{arith}
+use lib.Dec.{eqb}
+use borrow.Author.Needs.{needs}
+use Rattle.hall.specs.File.{refusal, blocks}
+use Rattle.hall.specs.Hall.{row-of}
+use Rattle.hallfile.specs.Kinds.{refusal-of}
+use Rattle.hallfile.specs.Places.{row-refusal}
+use Rattle.hallfile.specs.Record.{padded}
+use Rattle.hallfile.proofs.Refusals.{fine-row, fine-ends}
+use Rattle.hallfile.proofs.Reply.{is-fine, is-refused, reply-refused, reply-hall}
+use Rattle.hallfile.proofs.Progress.{Progress, progress-left, progress-none, progress-more, progress-ends, progress-all}
+use Rattle.hallfile.proofs.rows.read_rows.Statement.{statement}
+use Rattle.hallfile.proofs.rows.read_rows.Tie as tie
+use Rattle.hallfile.proofs.rows.read_rows.Reads as reads
+use Rattle.hallfile.proofs.rows.read_rows.Lts as lts
+use Rattle.hallfile.proofs.Kind.is_none.Reads as is-none-reads
+use Rattle.hallfile.proofs.Reading.refused.Reads as refused-reads
+use Rattle.hallfile.proofs.rows.lane_refusal.Reads as lane-refusal-reads
+use Rattle.hallfile.proofs.view.next_row.Reads as next-row-reads
+
+abbrev Inv-loop : tie.InvT-loop
+Inv-loop file n count tails₀ heads₀ prices₀ place₀ i₀ tails heads prices place i = Progress file n (blocks file) tails heads prices place i
+
+abbrev μ-loop : tie.MeasureT-loop
+μ-loop file n count tails₀ heads₀ prices₀ place₀ i₀ tails heads prices place i = count - i
+
+abbrev Passed : Type 0
+Passed =
+    lts.Else1
+    (next-row-reads.Asked, next-row-reads.Learnt, lane-refusal-reads.Asked, lane-refusal-reads.Learnt, is-none-reads.Asked, is-none-reads.Learnt, refused-reads.Asked, refused-reads.Learnt)
+    reads.Pre reads.Post Inv-loop μ-loop
+
+-- where a row is not refused
+module _ (e : Passed) where
+  fine : eqb (row-refusal (e .before .before .before .before .before .before .loop .i + 1) (e .before .before .before .before .before .before .before .before .args .n)
+      (row-of (e .before .before .before .before .next-row .result .lane .from) (e .before .before .before .before .next-row .result .lane .to)
+      (e .before .before .before .before .next-row .result .lane .price)) .number) 0 ≡ true
+  fine = is-fine (e .before .before .lane-refusal .result) _ (e .before .is-none .result) (e .before .before .lane-refusal .ensures) (e .before .is-none .ensures) (e .if1 .left)
+
+  small : (e .before .before .before .before .next-row .result .lane .from ≤ 64) × (e .before .before .before .before .next-row .result .lane .to ≤ 64)
+      × (e .before .before .before .before .next-row .result .lane .price ≤ 1000000)
+  unfolding row-of
+  small =
+      let n = e .before .before .before .before .before .before .before .before .args .n in
+      let lane = e .before .before .before .before .next-row .result .lane in
+      let row = row-of (lane .from) (lane .to) (lane .price) in
+      let good = fine-row (e .before .before .before .before .before .before .loop .i + 1) n row fine in
+      let ends = fine-ends n row (good .0) in
+      let pre = e .before .before .before .before .before .before .before .before .pre in
+      (omega (arith, ends .1, pre .3), omega (arith, ends .3, pre .3), good .1)
+
+loop-holds : tie.Need-loop-holds Inv-loop μ-loop
+unfolding padded
+loop-holds c = progress-none (c .before .args .file .now) (c .before .args .n) (blocks (c .before .args .file .now)) _ refl
+
+next-row-requires : tie.Need-next-row-requires Inv-loop μ-loop
+next-row-requires c κs = let l = c .before .loop in let s = c .before .before .before in
+    record {
+      table = s .pre .0;
+      stands = l .inv .stands;
+      more = progress-left (s .args .file .now) (s .args .n) (blocks (s .args .file .now)) (l .tails) (l .heads) (l .prices) (l .place) (l .i) (l .inv) (omega (arith, s .pre .1));
+    }
+
+add-lane-refusal : tie.Need-add-lane-refusal Inv-loop μ-loop
+add-lane-refusal c = search needs
+
+cast-lane-refusal : tie.Need-cast-lane-refusal Inv-loop μ-loop
+cast-lane-refusal c = search needs
+
+lane-refusal-requires : tie.Need-lane-refusal-requires Inv-loop μ-loop
+lane-refusal-requires c κs = search needs
+
+is-none-requires : tie.Need-is-none-requires Inv-loop μ-loop
+is-none-requires c κs = search needs
+
+refused-requires : tie.Need-refused-requires Inv-loop μ-loop
+refused-requires c κs = search needs
+
+returns : tie.Need-returns Inv-loop μ-loop
+returns c = let v = c .before .before in let g = v .before .before .before in let l = g .before .before .loop in let s = g .before .before .before .before in
+    let lane = g .next-row .result .lane in
+    let told = is-refused (v .before .lane-refusal .result) _ (v .is-none .result) (v .before .lane-refusal .ensures) (v .is-none .ensures) (c .before .if1 .taken) in
+    let ends = progress-ends (s .args .file .now) (s .args .n) (blocks (s .args .file .now)) (l .tails) (l .heads) (l .prices) (l .place) (l .i) (l .inv) (omega (arith, s .pre .1))
+    (lane .from) (lane .to) (lane .price) (g .next-row .result .after) (g .next-row .ensures .stands) (g .next-row .ensures .rest) told in
+    reply-refused _ _ (c .refused .result) (ap refusal-of (c .refused .ensures .0) ∙ v .before .lane-refusal .ensures ∙ sym ends) (rw ends told) (c .refused .ensures .1)
+
+cast-tails : tie.Need-cast-tails Inv-loop μ-loop
+cast-tails c = let f = small (c .before) in omega (arith, f .0)
+
+array-write-tails : tie.Need-array-write-tails Inv-loop μ-loop
+array-write-tails c = search needs
+
+cast-heads : tie.Need-cast-heads Inv-loop μ-loop
+cast-heads c = let f = small (c .before .before) in omega (arith, f .1)
+
+array-write-heads : tie.Need-array-write-heads Inv-loop μ-loop
+array-write-heads c = search needs
+
+cast-prices : tie.Need-cast-prices Inv-loop μ-loop
+cast-prices c = let f = small (c .before .before .before) in omega (arith, f .2)
+
+mul-prices : tie.Need-mul-prices Inv-loop μ-loop
+mul-prices c = search needs
+
+array-write-prices : tie.Need-array-write-prices Inv-loop μ-loop
+array-write-prices c = search needs
+
+add-i : tie.Need-add-i Inv-loop μ-loop
+add-i c = search needs
+
+loop-less : tie.Need-loop-less Inv-loop μ-loop
+loop-less c = search needs
+
+loop-again : tie.Need-loop-again Inv-loop μ-loop
+loop-again c = let e = c .before .before .before .before in let g = e .before .before .before .before in let l = g .before .before .loop in let s = g .before .before .before .before in
+    let lane = g .next-row .result .lane in
+    progress-more (s .args .file .now) (s .args .n) (blocks (s .args .file .now)) (l .tails) (l .heads) (l .prices) (l .place) (l .i) (l .inv) (omega (arith, s .pre .1))
+    (lane .from) (lane .to) (lane .price) (g .next-row .result .after) (g .next-row .ensures .stands) (g .next-row .ensures .rest) (omega (arith, s .pre .2)) (fine e)
+
+returns-2 : tie.Need-returns-2 Inv-loop μ-loop
+unfolding refusal-of refusal
+returns-2 c = let l = c .before .loop in let s = c .before .before .before in
+    let all = progress-all (s .args .file .now) (s .args .n) (blocks (s .args .file .now)) (l .tails) (l .heads) (l .prices) (l .place) (l .i) (s .args .count) (l .inv) (s .pre .1) (omega arith) in
+    reply-hall _ _ _ (sym (all .0)) (rw (all .0)) (all .1)
+
+pub read-rows-spec : {M : Type 1} → statement M
+read-rows-spec =
+    tie.close
+    (tie.spec
+    Inv-loop
+    μ-loop
+    loop-holds
+    next-row-requires
+    add-lane-refusal
+    cast-lane-refusal
+    lane-refusal-requires
+    is-none-requires
+    refused-requires
+    returns
+    cast-tails
+    array-write-tails
+    cast-heads
+    array-write-heads
+    cast-prices
+    mul-prices
+    array-write-prices
+    add-i
+    loop-less
+    loop-again
+    returns-2)

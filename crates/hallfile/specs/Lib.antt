@@ -1,0 +1,5 @@
+pub mod Kinds
+pub mod Places
+pub mod Record
+pub mod Shape
+pub mod Steps

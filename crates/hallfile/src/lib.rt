@@ -1,0 +1,132 @@
+// Reading a hall from the bytes of its file: refusals 2 to 9 in their fixed order, and the hall as columns.
+ghost use mathlib.Core.Path.{_≡_};
+ghost use mathlib.Core.Bool.{true, false};
+ghost use Prim.Native.Nat.{_<_};
+ghost use lib.Dec.{eqb};
+ghost use Rattle.hallfile.specs.Kinds.{refusal-of};
+ghost use Rattle.hall.specs.File.{hall-in, hall-refusal};
+ghost use Rattle.hallfile.specs.Record.{Replies, empty-record};
+ghost use Rattle.hallfile.specs.Shape.{shape-refusal};
+
+mod blocks;
+mod connected;
+mod little;
+mod places;
+mod rows;
+mod view;
+
+// What turns a call back; the kinds of a row carry its number, from 1.
+pub enum Kind {
+    None,
+    ListShort,
+    FileLength,
+    JunctionCount,
+    Blocks,
+    RowCount,
+    RowEnds(u32),
+    RowLoop(u32),
+    RowPrice(u32),
+    Unjoined,
+    Choice,
+}
+
+impl Kind {
+    pub fn is_none(self) -> bool
+        ensures { λ r. ⌜ r ≡ eqb (refusal-of self .number) 0 ⌝ }
+    {
+        match self {
+            Kind::None => true,
+            _ => false,
+        }
+    }
+}
+
+// A hall as columns: row i stands at place i - 1, unused places are zero.
+pub struct HallRecord {
+    pub n: usize,
+    pub count: usize,
+    pub tails: [u8; 256],
+    pub heads: [u8; 256],
+    pub prices: [u32; 256],
+}
+
+impl HallRecord {
+    pub const JUNCTIONS: usize = 64;
+
+    pub const BLOCKS: usize = 16;
+
+    pub const ROWS: usize = 256;
+
+    pub const PRICE: u64 = 1_000_000;
+
+    pub const LEAST_FILE: usize = 4;
+
+    pub const LARGEST_FILE: usize = 65_536;
+
+    pub fn empty() -> HallRecord
+        ensures { λ r. ⌜ r ≡ empty-record ⌝ }
+    {
+        HallRecord {
+            n: 0,
+            count: 0,
+            tails: [0; 256],
+            heads: [0; 256],
+            prices: [0; 256],
+        }
+    }
+}
+
+// What a reader replies: why it turns the file back, or the hall.
+pub struct Reading {
+    pub refusal: Kind,
+    pub hall: HallRecord,
+}
+
+impl Reading {
+    pub fn refused(refusal: Kind) -> Reading
+        ensures { λ r. ⌜ (r .refusal ≡ refusal) × (r .hall ≡ empty-record) ⌝ }
+    {
+        Reading {
+            refusal,
+            hall: HallRecord::empty(),
+        }
+    }
+}
+
+// Refusals 2 to 8, and the hall where there is none.
+fn read_shape(file: &[u8]) -> Reading
+    ensures { λ r. ⌜ Replies (shape-refusal (now (file .entry))) (hall-in (now (file .entry))) r ⌝ }
+{
+    let size = file.len();
+    if !((HallRecord::LEAST_FILE <= size) & (size <= HallRecord::LARGEST_FILE)) {
+        return Reading::refused(Kind::FileLength);
+    }
+    let n = little::number(file, 0, 2) as usize;
+    if !((1 <= n) & (n <= HallRecord::JUNCTIONS)) {
+        return Reading::refused(Kind::JunctionCount);
+    }
+    let blocks = little::number(file, 2, 2) as usize;
+    if !blocks::table_fits(file, blocks) {
+        return Reading::refused(Kind::Blocks);
+    }
+    let count = blocks::row_count(file, blocks);
+    if HallRecord::ROWS < count {
+        return Reading::refused(Kind::RowCount);
+    }
+    rows::read_rows(file, n, count)
+}
+
+// The first refusal of 2 to 9 that the file meets, and the hall where there is none.
+pub fn read_hall(file: &[u8]) -> Reading
+    ensures { λ r. ⌜ Replies (hall-refusal (now (file .entry))) (hall-in (now (file .entry))) r ⌝ }
+{
+    let reading = read_shape(file);
+    let refusal = reading.refusal;
+    if !refusal.is_none() {
+        return reading;
+    }
+    if !connected::is_connected(reading.hall) {
+        return Reading::refused(Kind::Unjoined);
+    }
+    reading
+}
