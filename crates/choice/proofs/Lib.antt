@@ -1,0 +1,2 @@
+pub mod Ascent
+pub mod Short

@@ -1,0 +1,83 @@
+// Choices of rows: whether a list of numbers is one, its rows as flags, and which junctions do not reach all.
+ghost use mathlib.Core.Path.{_≡_};
+ghost use mathlib.Core.Bool.{Bool, true, false};
+ghost use mathlib.Core.List.{List};
+ghost use Prim.Native.Nat.{ℕ, suc, _-_, _^_, _≤_, _<_};
+ghost use lib.ListN.{length, getD};
+ghost use Rattle.junctions.specs.Sets.{full};
+ghost use Rattle.digraph.specs.Adjacency.{out-of};
+ghost use Rattle.digraph.specs.Closure.{closure};
+ghost use Rattle.hall.specs.Hall.{Hall, ascends-from, member, missed};
+ghost use Rattle.dicuts.specs.Shores.{Ranged};
+ghost use Rattle.columns.specs.Columns.{Ends, Columns, flagged};
+ghost use Rattle.choice.specs.Short.{Inside, short-from, if-some};
+use junctions::Junctions;
+
+// The numbers ascend strictly from 1 up to the limit.
+pub fn ascends(numbers: &[u32], limit: u32) -> bool
+    requires { ⌜ limit ≤ 256 ⌝ }
+    ensures { λ r. ⌜ r ≡ ascends-from 1 limit (now (numbers .entry)) ⌝ }
+{
+    let mut least: u32 = 1;
+    let mut k: usize = 0;
+    while k < numbers.len() {
+        let number = numbers[k];
+        if number < least {
+            return false;
+        }
+        if limit < number {
+            return false;
+        }
+        least = number + 1;
+        k += 1;
+    }
+    true
+}
+
+// The flag of each row, row i at place i - 1.
+pub fn flags(numbers: &[u32]) -> [bool; 256]
+    requires { ⌜ ascends-from 1 256 (now numbers) ≡ true ⌝ }
+    ensures { λ r. ⌜ (length r ≡ 256) × ((k : ℕ) → k < 256 → getD r k false ≡ member (suc k) (now (numbers .entry))) ⌝ }
+{
+    let mut chosen = [false; 256];
+    let mut k: usize = 0;
+    while k < numbers.len() {
+        let i = numbers[k] as usize;
+        chosen[i - 1] = true;
+        k += 1;
+    }
+    chosen
+}
+
+// What the lowest of the junctions 1 to n that does not reach all reaches; 0 where each reaches all.
+pub fn shortfall(adjacency: &[u64; 64], n: usize) -> u64
+    requires { ⌜ (n ≤ 64) × Inside n (out-of (now adjacency)) ⌝ }
+    ensures { λ r. ⌜ r ≡ short-from n 1 (full n) (λ (j : ℕ). closure n (out-of (now (adjacency .entry))) (2 ^ (j - 1))) ⌝ }
+{
+    let all = Junctions::full(n).0;
+    let mut j: usize = 0;
+    while j < n {
+        let reached = digraph::reach(adjacency, 1 << j);
+        if reached != all {
+            return reached;
+        }
+        j += 1;
+    }
+    0
+}
+
+// The shore that a choice of a hall's rows misses; 0 where it joins.
+pub fn missed_shore<'a>(
+    n: usize,
+    m: usize,
+    tails: &'a [u8; 256],
+    heads: &'a [u8; 256],
+    chosen: &'a [bool; 256],
+) -> u64
+    requires { ⌜ Ends n m (now tails) (now heads) × ((h : Hall) × Columns h n m (now tails) (now heads)) ⌝ }
+    ensures { λ r. ⌜ ((h : Hall) (c : List ℕ) → Columns h n m (now (tails .entry)) (now (heads .entry)) → Ranged h
+        → ((i : ℕ) → 1 ≤ i → i ≤ m → flagged (now (chosen .entry)) i ≡ member i c) → if-some r ≡ missed h c) ⌝ }
+{
+    let arcs = adjacency::of_rows(n, m, tails, heads, chosen);
+    shortfall(&arcs, n)
+}
