@@ -1,0 +1,190 @@
+-- Sets filled from the first rows of the columns: the arcs that some row backward gives, and those that are solid. Assumes nothing.
+use mathlib.Core.Path.{_≡_, refl, sym, ap, ap₂, _∙_}
+use mathlib.Core.Bool.{Bool, true, false, _&&_, _||_, and-false, or-false, or-true}
+use mathlib.Core.List.{List}
+use Prim.Native.Nat.{ℕ, zero, suc, _+_, _-_, _*_, _%_, _^_, _≤_, _<_}
+use native.Mathlib.Nat.{add-zero}
+use native.Mathlib.Numerals.{add-one}
+use native.Mathlib.Omega.{arith}
+use lib.Bits.{bitAnd, bitOr}
+use lib.Dec.{eqb, leb}
+use lib.ListN.{length, getD, set, replicate, length-set}
+use lib.Seq.{getD-set-same, getD-set-other}
+use borrow.Author.Tests.{eqb-true, eqb-false, eq-eqb, ne-eqb, leb-true, le-leb}
+use Rattle.laws.specs.Finite.{any-below, sum-below, count-below, one-if}
+use Rattle.laws.proofs.Booleans.{by-bool, clash, or-r, bool-ext}
+use Rattle.laws.proofs.Agree.{any-ext}
+use Rattle.laws.proofs.Counts.{count-ext}
+use Rattle.junctions.specs.Sets.{holds}
+use Rattle.junctions.proofs.Bits.{one-shl}
+use Rattle.junctions.proofs.Sets.{and-holds, or-holds, one-holds, none-holds}
+use Rattle.hall.specs.Hall.{Hall, row}
+use Rattle.columns.specs.Columns.{at, flagged, Columns}
+use Rattle.tight.specs.Firming.{ahead, back, Firming}
+use Rattle.tight.specs.Solid.{forward, backward, solid, Firm}
+
+-- the code's 1 << (b - 1)
+abbrev mask : ℕ → ℕ
+mask b = (1 * 2 ^ (b - 1)) % 2 ^ 64
+
+mask-holds : (b y : ℕ) → 1 ≤ b → b ≤ 64 → 1 ≤ y → holds (mask b) y ≡ eqb b y
+mask-holds b y l m k =
+    ap (λ (s : ℕ). holds s y) (one-shl (b - 1) (omega arith)) ∙ one-holds y b k l
+    ∙ by-bool (eqb y b) (λ e. e ∙ sym (eq-eqb b y (sym (eqb-true y b e)))) (λ e. e ∙ sym (ne-eqb b y (λ q. eqb-false y b e (sym q))))
+
+-- more is put into the set of a
+pub grown-holds :
+    (sets : List ℕ) (a more : ℕ) → length sets ≡ 64 → 1 ≤ a → a ≤ 64 → (x y : ℕ) → 1 ≤ x →
+    holds (at (set sets (a - 1) (bitOr (getD sets (a - 1) 0) more)) x) y ≡ (holds (at sets x) y || (eqb a x && holds more y))
+grown-holds sets a more size la ma x y lx =
+    let next = bitOr (getD sets (a - 1) 0) more in
+    by-bool (eqb a x)
+    (λ e.
+    rw (e, sym (eqb-true a x e))
+    (ap (λ (s : ℕ). holds s y) (getD-set-same sets (a - 1) next 0 (omega arith)) ∙ or-holds (getD sets (a - 1) 0) more y))
+    (λ e.
+    let apart : a ≡ x → ⊥ = eqb-false a x e in
+    rw e
+    (ap (λ (s : ℕ). holds s y) (getD-set-other sets (a - 1) (x - 1) next 0 (λ q. apart (omega arith)))
+    ∙ sym (or-false (holds (at sets x) y))))
+
+zeros-at : (k i : ℕ) → getD {A = ℕ} (replicate k 0) i 0 ≡ 0
+zeros-at zero i = refl
+zeros-at (suc k) zero = refl
+zeros-at (suc k) (suc i) = zeros-at k i
+
+-- no row
+pub firm-none : (ts hs : List ℕ) (fs : List Bool) → Firming 0 ts hs fs (replicate 64 0) (replicate 64 0)
+unfolding any-below count-below sum-below
+firm-none ts hs fs =
+    record {
+      once-size = refl;
+      firm-size = refl;
+      once-holds = λ x y l k. ap (λ (s : ℕ). holds s y) (zeros-at 64 (x - 1)) ∙ none-holds y;
+      firm-holds = λ x y l k. ap (λ (s : ℕ). holds s y) (zeros-at 64 (x - 1)) ∙ none-holds y;
+    }
+
+-- counting one more
+first-more : (c : ℕ) (b : Bool) → leb 1 (c + one-if b) ≡ (leb 1 c || b)
+unfolding one-if
+first-more c true =
+    bool-ext (leb 1 (c + 1)) (leb 1 c || true) (λ e. or-r (leb 1 c) true refl) (λ e. le-leb 1 (c + 1) (omega arith))
+first-more c false =
+    ap (leb 1) (add-zero c) ∙ sym (or-false (leb 1 c))
+
+second-more : (c : ℕ) (b : Bool) → leb 2 (c + one-if b) ≡ (leb 2 c || (b && leb 1 c))
+unfolding one-if
+second-more c true =
+    bool-ext (leb 2 (c + 1)) (leb 2 c || leb 1 c)
+    (λ e. or-r (leb 2 c) (leb 1 c) (le-leb 1 c (omega (arith, leb-true 2 (c + 1) e))))
+    (λ e. le-leb 2 (c + 1) (by-bool (leb 1 c) (λ t. omega (arith, leb-true 1 c t)) (λ t. by-bool (leb 2 c) (λ u. omega (arith, leb-true 2 c u)) (λ u. clash e (or-both u t)))))
+  where
+    or-both : leb 2 c ≡ false → leb 1 c ≡ false → (leb 2 c || leb 1 c) ≡ false
+    or-both u t = rw (u, t)
+second-more c false =
+    ap (leb 2) (add-zero c) ∙ sym (or-false (leb 2 c))
+
+or-swap : (a c f : Bool) → ((a || c) || f) ≡ ((a || f) || c)
+or-swap true c f = refl
+or-swap false true true = refl
+or-swap false true false = refl
+or-swap false false true = refl
+or-swap false false false = refl
+
+or-twice : (a c f t l : Bool) → (((a || c) || f) || (l && t)) ≡ ((a || f) || (c || (t && l)))
+or-twice a c f true true = or-true ((a || c) || f) ∙ sym (ap (λ (b : Bool). (a || f) || b) (or-true c) ∙ or-true (a || f))
+or-twice a c f true false = or-false ((a || c) || f) ∙ or-swap a c f ∙ ap (λ (b : Bool). (a || f) || b) (sym (or-false c))
+or-twice a c f false true = or-false ((a || c) || f) ∙ or-swap a c f ∙ ap (λ (b : Bool). (a || f) || b) (sym (or-false c))
+or-twice a c f false false = or-false ((a || c) || f) ∙ or-swap a c f ∙ ap (λ (b : Bool). (a || f) || b) (sym (or-false c))
+
+-- one more row
+module _ (i : ℕ) (ts hs : List ℕ) (fs : List Bool) (once firm : List ℕ) (so-far : Firming i ts hs fs once firm)
+    (tail-low : 1 ≤ getD ts i 0) (tail-high : getD ts i 0 ≤ 64) (head-low : 1 ≤ getD hs i 0) (head-high : getD hs i 0 ≤ 64) where
+  abbrev tail : ℕ
+  tail = getD ts i 0
+
+  abbrev head : ℕ
+  head = getD hs i 0
+
+  -- the row forward
+  abbrev firmed : List ℕ
+  firmed = set firm (tail - 1) (bitOr (getD firm (tail - 1) 0) (mask head))
+
+  firmed-size : length firmed ≡ 64
+  firmed-size = length-set firm (tail - 1) (bitOr (getD firm (tail - 1) 0) (mask head)) ∙ so-far .firm-size
+
+  abbrev backs : (x y : ℕ) → ℕ
+  backs x y = count-below i (back ts hs fs x y)
+
+  firmed-holds : (x y : ℕ) → 1 ≤ x → 1 ≤ y → holds (at firmed x) y ≡ ((any-below i (ahead ts hs x y) || leb 2 (backs x y)) || ahead ts hs x y i)
+  firmed-holds x y l k =
+      grown-holds firm tail (mask head) (so-far .firm-size) tail-low tail-high x y l
+      ∙ ap₂ (λ (a b : Bool). a || (eqb tail x && b)) (so-far .firm-holds x y l k) (mask-holds head y head-low head-high k)
+
+  pub firm-ahead : getD fs i false ≡ false → Firming (i + 1) ts hs fs once firmed
+  unfolding any-below count-below sum-below
+  firm-ahead f =
+      record {
+        once-size = so-far .once-size;
+        firm-size = firmed-size;
+        once-holds = λ x y l k. so-far .once-holds x y l k ∙ sym (rw (add-one i, f) (first-more (backs x y) false ∙ or-false (leb 1 (backs x y))));
+        firm-holds = λ x y l k.
+            firmed-holds x y l k ∙ or-swap (any-below i (ahead ts hs x y)) (leb 2 (backs x y)) (ahead ts hs x y i)
+            ∙ sym (rw (add-one i, f) (ap (λ (b : Bool). (any-below i (ahead ts hs x y) || ahead ts hs x y i) || b) (second-more (backs x y) false ∙ or-false (leb 2 (backs x y)))));
+      }
+
+  -- the row backward: an arc that a row gave already becomes solid
+  abbrev again : ℕ
+  again = bitAnd (getD once (head - 1) 0) (mask tail)
+
+  again-holds : (x y : ℕ) → 1 ≤ y → (eqb head x && holds again y) ≡ (leb 1 (backs x y) && (eqb head x && eqb tail y))
+  again-holds x y k =
+      by-bool (eqb head x)
+      (λ e.
+      rw e
+      (and-holds (getD once (head - 1) 0) (mask tail) y
+      ∙ ap₂ _&&_ (so-far .once-holds head y head-low k ∙ ap (λ (z : ℕ). leb 1 (backs z y)) (eqb-true head x e)) (mask-holds tail y tail-low tail-high k)))
+      (λ e. rw e (sym (and-false (leb 1 (backs x y)))))
+
+  pub firm-both :
+      getD fs i false ≡ true →
+      Firming (i + 1) ts hs fs (set once (head - 1) (bitOr (getD once (head - 1) 0) (mask tail)))
+      (set firmed (head - 1) (bitOr (getD firmed (head - 1) 0) again))
+  unfolding any-below count-below sum-below
+  firm-both f =
+      record {
+        once-size = length-set once (head - 1) (bitOr (getD once (head - 1) 0) (mask tail)) ∙ so-far .once-size;
+        firm-size = length-set firmed (head - 1) (bitOr (getD firmed (head - 1) 0) again) ∙ firmed-size;
+        once-holds = λ x y l k.
+            grown-holds once head (mask tail) (so-far .once-size) head-low head-high x y l
+            ∙ ap₂ (λ (a b : Bool). a || (eqb head x && b)) (so-far .once-holds x y l k) (mask-holds tail y tail-low tail-high k)
+            ∙ sym (rw (add-one i, f) (first-more (backs x y) (eqb head x && eqb tail y)));
+        firm-holds = λ x y l k.
+            let a = any-below i (ahead ts hs x y) in
+            let both = eqb head x && eqb tail y in
+            grown-holds firmed head again firmed-size head-low head-high x y l
+            ∙ ap₂ _||_ (firmed-holds x y l k) (again-holds x y k)
+            ∙ or-twice a (leb 2 (backs x y)) (ahead ts hs x y i) both (leb 1 (backs x y))
+            ∙ sym (rw (add-one i, f) (ap (λ (b : Bool). (a || ahead ts hs x y i) || b) (second-more (backs x y) both)));
+      }
+
+-- all rows
+pub firm-solid :
+    (n m : ℕ) (ts hs : List ℕ) (fs : List Bool) (once firm : List ℕ) → Firming m ts hs fs once firm → (h : Hall) → Columns h n m ts hs →
+    Firm h (flagged fs) firm
+unfolding Firm solid
+firm-solid n m ts hs fs once firm full h cols x y l lx k ky =
+    full .firm-holds x y l k
+    ∙ rw (cols .rows) (ap₂ (λ (b : Bool) (c : ℕ). b || leb 2 c) (any-ext m _ _ (λ j less. forth j less)) (count-ext m _ _ (λ j less. back-again j less)))
+  where
+    tail-is : (j : ℕ) → j < m → getD ts j 0 ≡ row h (suc j) .from
+    tail-is j less = let place : suc j - 1 ≡ j = omega arith in rw place at (cols .tail (suc j) (omega arith) (omega arith))
+
+    head-is : (j : ℕ) → j < m → getD hs j 0 ≡ row h (suc j) .to
+    head-is j less = let place : suc j - 1 ≡ j = omega arith in rw place at (cols .head (suc j) (omega arith) (omega arith))
+
+    forth : (j : ℕ) → j < m → ahead ts hs x y j ≡ forward h x y j
+    forth j less = rw (tail-is j less, head-is j less)
+
+    back-again : (j : ℕ) → j < m → back ts hs fs x y j ≡ backward h (flagged fs) x y j
+    back-again j less = let place : suc j - 1 ≡ j = omega arith in rw (tail-is j less, head-is j less, place)

@@ -1,0 +1,25 @@
+-- `tight::neighbourhood_of` meets its contract. Assumes nothing.
+use native.Mathlib.Omega.{arith}
+use Rattle.columns.specs.Columns.{flagged}
+use Rattle.tight.proofs.Each.{robust-neighbourhood}
+use borrow.Author.Needs.{needs}
+use Rattle.tight.proofs.neighbourhood_of.Statement.{statement}
+use Rattle.tight.proofs.neighbourhood_of.Tie as tie
+
+of-rows-requires : tie.Need-of-rows-requires
+of-rows-requires c κs = search needs
+
+solid-arcs-requires : tie.Need-solid-arcs-requires
+solid-arcs-requires c κs = search needs
+
+neighbourhood-requires : tie.Need-neighbourhood-requires
+neighbourhood-requires c κs = search needs
+
+returns : tie.Need-returns
+returns c = let s = c .before .before .before .before .before in let a = s .args in let arcs = c .before .before .before .before .of-rows in let solid = c .before .before .before .solid-arcs in λ h cols ranged joins.
+    robust-neighbourhood h ranged (flagged (a .flags .now)) joins (omega (arith, cols .junctions, s .pre .0 .size)) (arcs .result) (solid .result) (arcs .ensures h cols) (solid .ensures h cols) (a .v) (s .pre .1)
+    (omega (arith, cols .junctions, s .pre .2)) (c .neighbourhood .result) (c .neighbourhood .ensures)
+
+pub neighbourhood-of-spec : {M : Type 1} → statement M
+neighbourhood-of-spec =
+    tie.close (tie.spec of-rows-requires solid-arcs-requires neighbourhood-requires returns)

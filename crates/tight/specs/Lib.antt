@@ -1,0 +1,4 @@
+pub mod Solid
+pub mod Robust
+pub mod Turns
+pub mod Firming
