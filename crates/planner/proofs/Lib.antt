@@ -1,0 +1,12 @@
+pub mod Rows
+pub mod Members
+pub mod Swaps
+pub mod Rooms
+pub mod Lifts
+pub mod Raising
+pub mod Flips
+pub mod Same
+pub mod Walks
+pub mod Steps
+pub mod Repairing
+pub mod Starts

@@ -1,0 +1,5 @@
+pub mod Low
+pub mod Zero
+pub mod Rooms
+pub mod Flips
+pub mod Repairs

@@ -1,0 +1,168 @@
+// Repair: while a chosen row has a gap, flip or raise.
+use crate::flip::flip;
+use crate::places::number;
+use crate::places::place;
+use crate::raise::raise_for;
+use crate::zero::zero_graph;
+ghost use mathlib.Core.Path.{_≡_};
+ghost use mathlib.Core.Bool.{true};
+ghost use Prim.Native.Nat.{ℕ, suc, _<_};
+ghost use lib.ListN.{length};
+ghost use Rattle.laws.specs.First.{first-below};
+ghost use Rattle.hall.specs.Hall.{Hall};
+ghost use Rattle.dicuts.specs.Shores.{Ranged};
+ghost use Rattle.potentials.specs.Repair.{Repairable};
+ghost use Rattle.columns.specs.Columns.{at, flagged, Ends, Columns, Neighbourhoods};
+ghost use Rattle.planner.specs.Low.{Low};
+ghost use Rattle.planner.specs.Repairs.{short, Free, Stepped, Repair-start, Repair-end};
+
+// A choice with its tight neighbourhoods, and a potential.
+pub struct State {
+    pub chosen: [bool; 256],
+    pub potential: [u64; 64],
+    pub around: [u64; 64],
+}
+
+// The place of the first chosen row with a gap, or the count where there is none.
+pub fn unpaid<'a>(
+    count: usize,
+    tails: &'a [u8; 256],
+    heads: &'a [u8; 256],
+    costs: &'a [u64; 256],
+    chosen: &'a [bool; 256],
+    potential: &'a [u64; 64],
+) -> usize
+    requires { ⌜ Ends 64 count (now tails) (now heads) × Low (now costs) × Low (now potential) ⌝ }
+    ensures { λ r. ⌜ ((h : Hall) (n : ℕ) → Columns h n count (now (tails .entry)) (now (heads .entry)) →
+        r ≡ first-below count (λ k. short h (at (now (costs .entry))) (at (now (potential .entry))) (flagged (now (chosen .entry))) (suc k))) ⌝ }
+{
+    let mut k: usize = 0;
+    while k < count {
+        let tail = place(tails[k]);
+        let head = place(heads[k]);
+        if chosen[k] & (potential[head] < potential[tail] + costs[k]) {
+            return k;
+        }
+        k += 1;
+    }
+    count
+}
+
+// One step for the chosen row at a place, which has a gap: a flip that drops it, or a raise.
+pub fn repair_step<'a>(
+    n: usize,
+    count: usize,
+    tails: &'a [u8; 256],
+    heads: &'a [u8; 256],
+    costs: &'a [u64; 256],
+    movable: &'a [bool; 256],
+    chosen: &'a [bool; 256],
+    potential: &'a [u64; 64],
+    around: &'a [u64; 64],
+    row: usize,
+) -> State
+    requires { ⌜ Ends n count (now tails) (now heads) × Low (now costs) × Low (now potential) × (row < count)
+        × (length (now chosen) ≡ 256) × (length (now potential) ≡ 64) ⌝ }
+    ensures { λ r. ⌜ (length (r .chosen) ≡ 256) × (length (r .potential) ≡ 64) × ((h : Hall) → Columns h n count (now (tails .entry)) (now (heads .entry)) → Ranged h → Free h (flagged (now (movable .entry))) →
+        Repairable h (at (now (costs .entry))) (at (now (potential .entry))) (flagged (now (chosen .entry))) →
+        Neighbourhoods h (flagged (now (chosen .entry))) (now (around .entry)) →
+        short h (at (now (costs .entry))) (at (now (potential .entry))) (flagged (now (chosen .entry))) (suc row) ≡ true →
+        Stepped h (at (now (costs .entry))) (at (now (potential .entry))) (at (r .potential)) (flagged (now (chosen .entry))) (flagged (r .chosen)) (r .around)) ⌝ }
+{
+    let tail = number(tails[row]);
+    let head = number(heads[row]);
+    let graph = zero_graph(
+        n,
+        count,
+        tails,
+        heads,
+        costs,
+        movable,
+        chosen,
+        potential,
+        around,
+    );
+    let distances = digraph::distances(&graph, head);
+    if digraph::distance(&distances, tail) < 64 {
+        let next = flip(
+            count,
+            tails,
+            heads,
+            costs,
+            movable,
+            chosen,
+            potential,
+            &graph,
+            &distances,
+            head,
+            tail,
+            row,
+            false,
+        );
+        let sets = tight::neighbourhoods(n, count, tails, heads, &next);
+        return State {
+            chosen: next,
+            potential: *potential,
+            around: sets,
+        };
+    }
+    let reached = digraph::reach(&graph, 1 << (head - 1));
+    let lifted = raise_for(
+        count,
+        tails,
+        heads,
+        costs,
+        movable,
+        potential,
+        around,
+        reached,
+        row,
+    );
+    State {
+        chosen: *chosen,
+        potential: lifted,
+        around: *around,
+    }
+}
+
+// Steps until no chosen row has a gap: the choice that is left is one of the cheapest.
+pub fn repair<'a>(
+    n: usize,
+    count: usize,
+    tails: &'a [u8; 256],
+    heads: &'a [u8; 256],
+    costs: &'a [u64; 256],
+    chosen: [bool; 256],
+    potential: [u64; 64],
+) -> State
+    requires { ⌜ Ends n count (now tails) (now heads) × Low (now costs) × Repair-start n count (now tails) (now heads) (now costs) potential chosen ⌝ }
+    ensures { λ r. ⌜ ((h : Hall) → Columns h n count (now (tails .entry)) (now (heads .entry)) → Ranged h →
+        Repairable h (at (now (costs .entry))) (at potential) (flagged chosen) →
+        Repair-end h (at (now (costs .entry))) (at potential) (at (r .potential)) (flagged chosen) (flagged (r .chosen)) (r .around)) ⌝ }
+{
+    let movable = [true; 256];
+    let around = tight::neighbourhoods(n, count, tails, heads, &chosen);
+    let mut state = State {
+        chosen,
+        potential,
+        around,
+    };
+    let mut row = unpaid(count, tails, heads, costs, &state.chosen, &state.potential);
+    while row < count {
+        let next = repair_step(
+            n,
+            count,
+            tails,
+            heads,
+            costs,
+            &movable,
+            &state.chosen,
+            &state.potential,
+            &state.around,
+            row,
+        );
+        state = next;
+        row = unpaid(count, tails, heads, costs, &state.chosen, &state.potential);
+    }
+    state
+}

@@ -1,0 +1,273 @@
+-- The turns of the start: a row whose tail is reached from its head over arcs of the other rows may be dropped; and all rows join. Assumes nothing.
+use mathlib.Core.Bool.{Bool, true, false, _&&_, _||_, not}
+use mathlib.Core.List.{List, [], _∷_}
+use mathlib.Core.Logic.{_⊎_, inl, inr, ⊎-elim}
+use mathlib.Core.Path.{_≡_, refl, sym, ap, subst, _∙_}
+use Prim.Native.Nat.{ℕ, zero, suc, _+_, _-_, _*_, _%_, _^_, _≤_, _<_}
+use native.Mathlib.Omega.{arith}
+use lib.Bits.{bitAnd, bitXor}
+use lib.Dec.{eqb, eqb·suc-suc}
+use lib.ListN.{length, getD, set, length-set}
+use lib.Seq.{getD-set-same, getD-set-other}
+use borrow.Author.Tests.{eqb-true, eqb-false}
+use Rattle.laws.proofs.Booleans.{by-bool, clash, and-l, and-r, and-i, or-l, or-r, or-cases}
+use Rattle.laws.proofs.Finite.{any-found, any-intro}
+use Rattle.junctions.specs.Sets.{holds, Within}
+use Rattle.junctions.proofs.Bounds.{junction-le}
+use Rattle.junctions.proofs.Bits.{one-shl}
+use Rattle.junctions.proofs.Sets.{less-holds, gather-lt, gather-holds}
+use Rattle.junctions.proofs.Single.{one-lt, one-self}
+use Rattle.digraph.specs.Adjacency.{out-of}
+use Rattle.digraph.specs.Reach.{Closed}
+use Rattle.digraph.specs.Closure.{closure}
+use Rattle.digraph.proofs.Closure.{closure-lt, closure-reach}
+use Rattle.hall.specs.Hall.{Hall, row, count}
+use Rattle.dicuts.specs.Arcs.{arc, arcs}
+use Rattle.dicuts.specs.Shores.{Ranged, Linked, once, Joining}
+use Rattle.joining.proofs.Joining.{joining-mono, linked-joining}
+use Rattle.neighbours.specs.Removal.{without, Spared}
+use Rattle.neighbours.proofs.Removal.{drop-joins}
+use Rattle.columns.specs.Columns.{at, flagged, Ends, Columns, Arcs}
+use Rattle.adjacency.proofs.Arcs.{arcs-ext}
+use Rattle.pruning.specs.Backed.{Backed, Under}
+
+-- the ends of a row are junctions 1 to 64
+pub ends-fit : (n m : ℕ) (ts hs : List ℕ) → Ends n m ts hs → (k : ℕ) → k < m → (1 ≤ getD ts k 0) × (getD ts k 0 ≤ 64) × (1 ≤ getD hs k 0) × (getD hs k 0 ≤ 64)
+ends-fit n m ts hs ends k l =
+    (ends .tail-low k l, omega (arith, ends .tail-high k l, ends .size), ends .head-low k l, omega (arith, ends .head-high k l, ends .size))
+
+-- one more flag is set
+pub set-first : (fs : List Bool) (k : ℕ) → k < length fs → ((j : ℕ) → j < k → getD fs j false ≡ true) → (j : ℕ) → j < k + 1 → getD (set fs k true) j false ≡ true
+set-first fs k long so-far j l =
+    by-bool (eqb j k)
+    (λ e. let here : j ≡ k = eqb-true j k e in rw here (getD-set-same fs k true false long))
+    (λ e. let there : j ≡ k → ⊥ = eqb-false j k e in getD-set-other fs k j true false there ∙ so-far j (omega arith))
+
+-- flags of all rows are a joining set
+pub first-joins : (h : Hall) → Linked h → (fs : List Bool) → ((k : ℕ) → k < count h → getD fs k false ≡ true) → Joining h (once (flagged fs))
+first-joins h linked fs all = joining-mono h (λ i. true) (flagged fs) (λ i l u e. all (i - 1) (omega arith)) (linked-joining h linked)
+
+set-false : (fs : List Bool) (k : ℕ) → getD (set fs k false) k false ≡ false
+set-false [] k = refl
+set-false (f ∷ fs) zero = refl
+set-false (f ∷ fs) (suc k) = set-false fs k
+
+-- the flags with one taken out are the rows without it
+module _ (fs : List Bool) (k : ℕ) where
+  pub taken-out : (i : ℕ) → 1 ≤ i → flagged (set fs k false) i ≡ without (flagged fs) (suc k) i
+  unfolding without
+  taken-out i l =
+      by-bool (eqb i (suc k))
+      (λ e.
+      let here : i - 1 ≡ k = omega (arith, eqb-true i (suc k) e) in
+      rw (e, here) (set-false fs k ∙ none (getD fs k false)))
+      (λ e.
+      let there : i - 1 ≡ k → ⊥ = λ q. eqb-false i (suc k) e (omega arith) in
+      rw e (getD-set-other fs k (i - 1) false false there ∙ same (getD fs (i - 1) false)))
+    where
+      none : (b : Bool) → false ≡ (b && false)
+      none true = refl
+      none false = refl
+
+      same : (b : Bool) → b ≡ (b && true)
+      same true = refl
+      same false = refl
+
+  module _ (h : Hall) (rg : Ranged h) (n m : ℕ) (ts hs : List ℕ) (few : n ≤ 64) (cols : Columns h n m ts hs) (less : k < m) where
+    abbrev from : ℕ
+    from = row h (suc k) .from
+
+    abbrev to : ℕ
+    to = row h (suc k) .to
+
+    abbrev F : ℕ → Bool
+    F = flagged fs
+
+    abbrev G : ℕ → Bool
+    G = without F (suc k)
+
+    k-high : suc k ≤ count h
+    k-high = omega (arith, cols .rows)
+
+    -- an arc is there without row k, or it is the row's own
+    arc-without : (x y : ℕ) → arc h F x y ≡ true → (arc h G x y ≡ true) ⊎ ((x ≡ to) × (y ≡ from))
+    unfolding arc without
+    arc-without x y e =
+        let w = any-found (count h) _ e in
+        let i : ℕ = w .0 in
+        let forward : Bool = eqb (row h (suc i) .from) x && eqb (row h (suc i) .to) y in
+        let back : Bool = eqb (row h (suc i) .to) x && eqb (row h (suc i) .from) y in
+        ⊎-elim
+        (λ (p : forward ≡ true). inl (any-intro (count h) _ i (w .1) (or-l forward (G (suc i) && back) p)))
+        (λ (p : (F (suc i) && back) ≡ true).
+        by-bool (eqb (suc i) (suc k))
+        (λ q.
+        let same : i ≡ k = omega (arith, eqb-true (suc i) (suc k) q) in
+        let ends : back ≡ true = and-r (F (suc i)) back p in
+        let a : row h (suc i) .to ≡ x = eqb-true (row h (suc i) .to) x (and-l (eqb (row h (suc i) .to) x) (eqb (row h (suc i) .from) y) ends) in
+        let b : row h (suc i) .from ≡ y = eqb-true (row h (suc i) .from) y (and-r (eqb (row h (suc i) .to) x) (eqb (row h (suc i) .from) y) ends) in
+        inr (sym a ∙ ap (λ (z : ℕ). row h (suc z) .to) same, sym b ∙ ap (λ (z : ℕ). row h (suc z) .from) same))
+        (λ q.
+        inl (any-intro (count h) _ i (w .1)
+        (or-r forward (G (suc i) && back)
+        (and-i (G (suc i)) back (and-i (F (suc i)) (not (eqb (suc i) (suc k))) (and-l (F (suc i)) back p) (ap not q)) (and-r (F (suc i)) back p))))))
+        (or-cases forward (F (suc i) && back) (w .2))
+
+    out-arc : (E : ℕ → Bool) (x y : ℕ) → 1 ≤ y → holds (arcs h E x) y ≡ true → (y ≤ h .n) × (arc h E x y ≡ true)
+    unfolding arcs
+    out-arc E x y l e =
+        let high : y ≤ h .n = junction-le (h .n) (arcs h E x) y (gather-lt (h .n) (arc h E x)) e in
+        (high, sym (gather-holds (h .n) (arc h E x) y l high) ∙ e)
+
+    in-arcs : (E : ℕ → Bool) (x y : ℕ) → 1 ≤ y → y ≤ h .n → arc h E x y ≡ true → holds (arcs h E x) y ≡ true
+    unfolding arcs
+    in-arcs E x y l u e = gather-holds (h .n) (arc h E x) y l u ∙ e
+
+    -- without the row's own arc, or with it where it is backed, the sets stay under the rows that are left
+    pub under-drop :
+        (sets : List ℕ) (p r : ℕ) → length sets ≡ 64 → p < 64 → suc p ≡ to → Under h F sets →
+        ((y : ℕ) → 1 ≤ y → holds r y ≡ true → (holds (getD sets p 0) y ≡ true) × (y ≡ from → Backed h F (suc k))) → Under h G (set sets p r)
+    unfolding Under Within Backed
+    under-drop sets p r size small place under spare x l u y m e =
+        by-bool (eqb x to)
+        (λ q.
+        let is-to : x ≡ to = eqb-true x to q in
+        let here : x - 1 ≡ p = omega (arith, is-to, place) in
+        let new : holds r y ≡ true = ap (λ (z : ℕ). holds z y) (sym (ap (λ (z : ℕ). getD (set sets p r) z 0) here ∙ getD-set-same sets p r 0 (omega (arith, size)))) ∙ e in
+        let old : holds (at sets x) y ≡ true = ap (λ (z : ℕ). holds (getD sets z 0) y) here ∙ spare y m new .0 in
+        let known = out-arc F x y m (under x l u y m old) in
+        in-arcs G x y m (known .0)
+        (⊎-elim (λ a. a) (λ own. rw (own .0, own .1) (spare y m new .1 (own .1))) (arc-without x y (known .1))))
+        (λ q.
+        let off : x ≡ to → ⊥ = eqb-false x to q in
+        let there : x - 1 ≡ p → ⊥ = λ s. off (omega (arith, place)) in
+        let old : holds (at sets x) y ≡ true = ap (λ (z : ℕ). holds z y) (sym (getD-set-other sets p (x - 1) r 0 there)) ∙ e in
+        let known = out-arc F x y m (under x l u y m old) in
+        in-arcs G x y m (known .0) (⊎-elim (λ a. a) (λ own. absurd (off (own .0))) (arc-without x y (known .1))))
+
+    -- a row that is not dropped gets its arc back
+    pub under-back :
+        (sets : List ℕ) (p r : ℕ) → length sets ≡ 64 → p < 64 → Under h F sets → Under h F (set (set sets p r) p (getD sets p 0))
+    unfolding Under Within
+    under-back sets p r size small under x l u y m e =
+        by-bool (eqb (x - 1) p)
+        (λ q.
+        let here : x - 1 ≡ p = eqb-true (x - 1) p q in
+        let long : p < length (set sets p r) = omega (arith, length-set sets p r, size) in
+        under x l u y m
+        (ap (λ (z : ℕ). holds (getD sets z 0) y) here
+        ∙ ap (λ (z : ℕ). holds z y) (sym (ap (λ (z : ℕ). getD (set (set sets p r) p (getD sets p 0)) z 0) here ∙ getD-set-same (set sets p r) p (getD sets p 0) 0 long)) ∙ e))
+        (λ q.
+        let there : x - 1 ≡ p → ⊥ = eqb-false (x - 1) p q in
+        under x l u y m
+        (ap (λ (z : ℕ). holds z y)
+        (sym (getD-set-other (set sets p r) p (x - 1) (getD sets p 0) 0 there ∙ getD-set-other sets p (x - 1) r 0 there)) ∙ e))
+
+    pub under-taken : (sets : List ℕ) → Under h G sets → Under h (flagged (set fs k false)) sets
+    unfolding Under
+    under-taken sets under x l u =
+        subst (λ (z : ℕ). Within (at sets x) z) (sym (arcs-ext h (flagged (set fs k false)) G (λ i p q. taken-out i p) x)) (under x l u)
+
+    -- what the row's head reaches without the row
+    spared : ℕ
+    spared = closure (h .n) (arcs h G) (2 ^ (to - 1))
+
+    to-low : 1 ≤ to
+    to-low = rg .to-low (suc k) (omega arith) k-high
+
+    to-high : to ≤ h .n
+    to-high = rg .to-high (suc k) (omega arith) k-high
+
+    spared-is : Spared h F (suc k) to spared
+    unfolding spared arcs
+    spared-is = closure-reach (h .n) (arcs h G) (2 ^ (to - 1)) (one-lt (h .n) to to-low to-high) (λ j l u. gather-lt (h .n) (arc h G j))
+
+    -- it is closed for sets under the rows that are left
+    spared-closed : (sets : List ℕ) → Under h G sets → Closed 64 (out-of sets) spared
+    unfolding Under Closed Within spared
+    spared-closed sets under j l u e y m has =
+        let high : j ≤ h .n = junction-le (h .n) spared j (closure-lt (h .n) (arcs h G) (2 ^ (to - 1)) (one-lt (h .n) to to-low to-high)) e in
+        spared-is .closed j l high e y m (under j l high y m has)
+
+    pub dropped-joins :
+        (sets : List ℕ) → Under h G sets → ((t : ℕ) → holds t to ≡ true → Closed 64 (out-of sets) t → holds t from ≡ true) →
+        Joining h (once F) → Joining h (once (flagged (set fs k false)))
+    unfolding without Within
+    dropped-joins sets under leads joining =
+        let back : holds spared from ≡ true = leads spared (spared-is .contains to to-low (one-self to to-low)) (spared-closed sets under) in
+        let rest : Joining h (once G) =
+        by-bool (F (suc k))
+        (λ e.
+        drop-joins h F (suc k) (record { low = omega arith; high = k-high; in-it = e }) spared to-low
+        (rg .from-low (suc k) (omega arith) k-high) spared-is back joining)
+        (λ e.
+        joining-mono h F G
+        (λ i l u t.
+        and-i (F i) (not (eqb i (suc k))) t
+        (by-bool (eqb i (suc k)) (λ q. clash t (ap F (eqb-true i (suc k) q) ∙ e)) (λ q. ap not q))) joining) in
+        joining-mono h G (flagged (set fs k false)) (λ i l u t. taken-out i l ∙ t) rest
+
+module _ (fs : List Bool) (k : ℕ) (h : Hall) (n m : ℕ) (ts hs : List ℕ) (cols : Columns h n m ts hs) (less : k < m) where
+  row-from : (i : ℕ) → i < m → getD ts i 0 ≡ row h (suc i) .from
+  row-from i l = let place : suc i - 1 ≡ i = omega arith in rw place at (cols .tail (suc i) (omega arith) l)
+
+  row-to : (i : ℕ) → i < m → getD hs i 0 ≡ row h (suc i) .to
+  row-to i l = let place : suc i - 1 ≡ i = omega arith in rw place at (cols .head (suc i) (omega arith) l)
+
+  -- another row that makes the arc
+  pub backed-by :
+      (i : ℕ) → i < m →
+      ((eqb (getD ts i 0) (getD hs k 0) && eqb (getD hs i 0) (getD ts k 0)) || ((getD fs i false && not (eqb i k)) && (eqb (getD hs i 0) (getD hs k 0) && eqb (getD ts i 0) (getD ts k 0)))) ≡ true →
+      Backed h (flagged fs) (suc k)
+  unfolding Backed arc without
+  backed-by i l e =
+      let place : suc i - 1 ≡ i = omega arith in
+      any-intro (count h) _ i (omega (arith, cols .rows))
+      (rw (place, eqb·suc-suc i k, sym (row-from i l), sym (row-to i l), sym (row-from k less), sym (row-to k less)) e)
+
+-- a set without one junction
+pub cleared :
+    (found tail y : ℕ) → tail < 64 → 1 ≤ y → holds (bitXor found (bitAnd found ((1 * 2 ^ tail) % 2 ^ 64))) y ≡ true →
+    (holds found y ≡ true) × (y ≡ suc tail → ⊥)
+cleared found tail y small low e =
+    let place : suc tail - 1 ≡ tail = omega arith in
+    let own : holds (2 ^ tail) (suc tail) ≡ true = rw place at (one-self (suc tail) (omega arith)) in
+    let left : (holds found y && not (holds (2 ^ tail) y)) ≡ true = sym (less-holds found (2 ^ tail) y) ∙ rw (one-shl tail small) at e in (
+      and-l (holds found y) (not (holds (2 ^ tail) y)) left,
+      λ q.
+          clash (and-r (holds found y) (not (holds (2 ^ tail) y)) left)
+          (ap not (ap (holds (2 ^ tail)) q ∙ own)),
+    )
+
+-- rows that join, and sets under them
+abbrev pub Thinned : Hall → (fs : List Bool) → (sets : List ℕ) → Type 0
+Thinned h fs sets = Joining h (once (flagged fs)) × Under h (flagged fs) sets
+
+pub thinned-all : (h : Hall) → Linked h → (fs : List Bool) → ((k : ℕ) → k < count h → getD fs k false ≡ true) → (sets : List ℕ) → Arcs h (flagged fs) sets → Thinned h fs sets
+unfolding Arcs Under Within
+thinned-all h linked fs all sets is =
+    (first-joins h linked fs all, λ x l u. subst (λ (z : ℕ). Within (at sets x) z) (is x l u) (λ y m e. e))
+
+-- one turn: row k, its ends at places p and q, is dropped, or gets its arc back
+module _ (fs : List Bool) (k : ℕ) (h : Hall) (rg : Ranged h) (n m : ℕ) (ts hs : List ℕ) (few : n ≤ 64) (cols : Columns h n m ts hs) (less : k < m)
+    (sets : List ℕ) (size : length sets ≡ 64) (p q r : ℕ) (low : p < 64) (head : suc p ≡ getD hs k 0) (tail : suc q ≡ getD ts k 0) (so-far : Thinned h fs sets) where
+  p-to : suc p ≡ row h (suc k) .to
+  p-to = head ∙ row-to fs k h n m ts hs cols less k less
+
+  q-from : suc q ≡ row h (suc k) .from
+  q-from = tail ∙ row-from fs k h n m ts hs cols less k less
+
+  pub turn-dropped :
+      ((y : ℕ) → 1 ≤ y → holds r y ≡ true → (holds (getD sets p 0) y ≡ true) × (y ≡ suc q → Backed h (flagged fs) (suc k))) →
+      ((t : ℕ) → holds t (p + 1) ≡ true → Closed 64 (out-of (set sets p r)) t → holds t (q + 1) ≡ true) → Thinned h (set fs k false) (set sets p r)
+  turn-dropped spare leads =
+      let to-place : p + 1 ≡ row h (suc k) .to = omega (arith, p-to) in
+      let from-place : q + 1 ≡ row h (suc k) .from = omega (arith, q-from) in
+      let under = under-drop fs k h rg n m ts hs few cols less sets p r size low p-to (so-far .1)
+      (λ y l e. (spare y l e .0, λ own. spare y l e .1 (own ∙ sym q-from))) in (
+        dropped-joins fs k h rg n m ts hs few cols less (set sets p r) under (rw (to-place, from-place) at leads) (so-far .0),
+        under-taken fs k h rg n m ts hs few cols less (set sets p r) under,
+      )
+
+  pub turn-kept : Thinned h fs (set (set sets p r) p (getD sets p 0))
+  turn-kept = (so-far .0, under-back fs k h rg n m ts hs few cols less sets p r size low (so-far .1))

@@ -1,0 +1,80 @@
+-- `pruning::backed` finds another row that makes the arc. Assumes nothing.
+use mathlib.Core.Logic.{⊎-elim}
+use mathlib.Core.Path.{_≡_, refl}
+use mathlib.Core.Bool.{true}
+use Prim.Native.Nat.{ℕ, suc, _-_, _≤_}
+use native.Mathlib.Omega.{arith}
+use Rattle.laws.proofs.Booleans.{clash, or-cases}
+use Rattle.hall.specs.Hall.{Hall}
+use Rattle.columns.specs.Columns.{flagged, Columns}
+use Rattle.pruning.specs.Backed.{Backed}
+use Rattle.pruning.proofs.Dropping.{backed-by}
+use borrow.Author.Needs.{needs}
+use Rattle.pruning.proofs.backed.Statement.{statement}
+use Rattle.pruning.proofs.backed.Tie as tie
+
+abbrev Inv-loop : tie.InvT-loop
+Inv-loop m tails heads rows k tail head found₀ i₀ found i = (i ≤ m) × ((h : Hall) (n : ℕ) → Columns h n m tails heads → found ≡ true → Backed h (flagged rows) (suc k))
+
+abbrev μ-loop : tie.MeasureT-loop
+μ-loop m tails heads rows k tail head found₀ i₀ found i = m - i
+
+element-copy-out-tail : tie.Need-element-copy-out-tail Inv-loop μ-loop
+element-copy-out-tail c = search needs
+
+element-copy-out-head : tie.Need-element-copy-out-head Inv-loop μ-loop
+element-copy-out-head c = search needs
+
+loop-holds : tie.Need-loop-holds Inv-loop μ-loop
+loop-holds c = (omega arith, λ h n cols e. clash e refl)
+
+element-copy-out-forward : tie.Need-element-copy-out-forward Inv-loop μ-loop
+element-copy-out-forward c = search needs
+
+element-copy-out-forward-2 : tie.Need-element-copy-out-forward-2 Inv-loop μ-loop
+element-copy-out-forward-2 c = search needs
+
+element-copy-out-backward : tie.Need-element-copy-out-backward Inv-loop μ-loop
+element-copy-out-backward c = search needs
+
+element-copy-out-backward-2 : tie.Need-element-copy-out-backward-2 Inv-loop μ-loop
+element-copy-out-backward-2 c = search needs
+
+element-copy-out-backward-3 : tie.Need-element-copy-out-backward-3 Inv-loop μ-loop
+element-copy-out-backward-3 c = search needs
+
+add-i : tie.Need-add-i Inv-loop μ-loop
+add-i c = search needs
+
+loop-less : tie.Need-loop-less Inv-loop μ-loop
+loop-less c = search needs
+
+loop-again : tie.Need-loop-again Inv-loop μ-loop
+loop-again c =
+    let l = c .before .before .before .before .before .before .loop in
+    let a = c .before .before .before .before .before .before .before .before .before .args in (
+      omega arith,
+      λ h n cols e. ⊎-elim (l .inv .1 h n cols) (backed-by (a .rows .now) (a .k) h n (a .m) (a .tails .now) (a .heads .now) cols (c .before .before .before .before .before .before .before .before .before .pre .1) (l .i) (omega arith)) (or-cases (l .found) _ e),
+    )
+
+returns : tie.Need-returns Inv-loop μ-loop
+returns c = c .before .loop .inv .1
+
+pub backed-spec : {M : Type 1} → statement M
+backed-spec =
+    tie.close
+    (tie.spec
+    Inv-loop
+    μ-loop
+    element-copy-out-tail
+    element-copy-out-head
+    loop-holds
+    element-copy-out-forward
+    element-copy-out-forward-2
+    element-copy-out-backward
+    element-copy-out-backward-2
+    element-copy-out-backward-3
+    add-i
+    loop-less
+    loop-again
+    returns)

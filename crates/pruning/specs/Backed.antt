@@ -1,0 +1,18 @@
+-- Arcs that a row is not needed for, and sets of arcs that rows make. Assumes nothing: these are definitions.
+use mathlib.Core.Path.{_≡_}
+use mathlib.Core.Bool.{Bool, true}
+use mathlib.Core.List.{List}
+use Prim.Native.Nat.{ℕ, _≤_}
+use Rattle.junctions.specs.Sets.{Within}
+use Rattle.hall.specs.Hall.{Hall, row}
+use Rattle.dicuts.specs.Arcs.{arc, arcs}
+use Rattle.neighbours.specs.Removal.{without}
+use Rattle.columns.specs.Columns.{at}
+
+-- the arc from row f's head to its tail is there without f
+unfoldable pub Backed : Hall → (F : ℕ → Bool) → (f : ℕ) → Type 0
+Backed h F f = arc h (without F f) (row h f .to) (row h f .from) ≡ true
+
+-- every arc of the sets is one of the rows F
+unfoldable pub Under : Hall → (F : ℕ → Bool) → (sets : List ℕ) → Type 0
+Under h F sets = (x : ℕ) → 1 ≤ x → x ≤ h .n → Within (at sets x) (arcs h F x)

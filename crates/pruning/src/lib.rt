@@ -1,0 +1,146 @@
+// A joining choice to start from: all rows, then each row is dropped, dearest first, if the others still join.
+ghost use mathlib.Core.Path.{_≡_};
+ghost use mathlib.Core.Bool.{true, false};
+ghost use Prim.Native.Nat.{ℕ, suc, _≤_, _<_};
+ghost use lib.ListN.{getD};
+ghost use Rattle.junctions.specs.Sets.{holds};
+ghost use Rattle.digraph.specs.Adjacency.{out-of};
+ghost use Rattle.digraph.specs.Reach.{Closed};
+ghost use Rattle.hall.specs.Hall.{Hall};
+ghost use Rattle.dicuts.specs.Shores.{Ranged, Linked, once, Joining};
+ghost use Rattle.columns.specs.Columns.{flagged, Ends, Columns};
+ghost use Rattle.pruning.specs.Backed.{Backed};
+
+mod order;
+
+// The first m rows.
+pub fn first_rows(m: usize) -> [bool; 256]
+    requires { ⌜ m ≤ 256 ⌝ }
+    ensures { λ r. ⌜ ((k : ℕ) → k < m → getD r k false ≡ true) ⌝ }
+{
+    let mut rows = [false; 256];
+    let mut k: usize = 0;
+    while k < m {
+        rows[k] = true;
+        k += 1;
+    }
+    rows
+}
+
+// Whether the target is reached from the start.
+fn leads(arcs: &[u64; 64], start: usize, target: usize) -> bool
+    requires { ⌜ (1 ≤ start) × (start ≤ 64) × (1 ≤ target) × (target ≤ 64) ⌝ }
+    ensures { λ r. ⌜ (r ≡ true → (t : ℕ) → holds t start ≡ true → Closed 64 (out-of (now (arcs .entry))) t → holds t target ≡ true) ⌝ }
+{
+    let mut reached: u64 = 1 << (start - 1);
+    let mut todo = reached;
+    while todo != 0 {
+        if (reached >> (target - 1)) % 2 == 1 {
+            return true;
+        }
+        let next = (u64::trailing_zeros(todo) as usize) + 1;
+        let found = digraph::arcs(arcs, next);
+        todo = (todo & (todo - 1)) | (found ^ (found & reached));
+        reached = reached | found;
+    }
+    false
+}
+
+// Whether another row makes the arc from the head of the row at place k to its tail.
+fn backed<'a>(
+    m: usize,
+    tails: &'a [u8; 256],
+    heads: &'a [u8; 256],
+    rows: &'a [bool; 256],
+    k: usize,
+) -> bool
+    requires { ⌜ (m ≤ 256) × (k < m) ⌝ }
+    ensures { λ r. ⌜ ((h : Hall) (n : ℕ) → Columns h n m (now (tails .entry)) (now (heads .entry)) → r ≡ true → Backed h (flagged (now (rows .entry))) (suc k)) ⌝ }
+{
+    let tail = tails[k];
+    let head = heads[k];
+    let mut found = false;
+    let mut i: usize = 0;
+    while i < m {
+        let forward = (tails[i] == head) & (heads[i] == tail);
+        let backward = (rows[i] & (i != k)) & ((heads[i] == head) & (tails[i] == tail));
+        found = found | (forward | backward);
+        i += 1;
+    }
+    found
+}
+
+// The arcs of the head of the row at place k that are left without the row, where `twice` holds the tail of every arc that two rows make.
+fn spared_arcs<'a>(
+    m: usize,
+    tails: &'a [u8; 256],
+    heads: &'a [u8; 256],
+    rows: &'a [bool; 256],
+    k: usize,
+    tail: usize,
+    found: u64,
+    twice: u64,
+) -> u64
+    requires { ⌜ (m ≤ 256) × (k < m) × (tail < 64) ⌝ }
+    ensures { λ r. ⌜ ((h : Hall) (n : ℕ) → Columns h n m (now (tails .entry)) (now (heads .entry)) →
+        (y : ℕ) → 1 ≤ y → holds r y ≡ true → (holds found y ≡ true) × (y ≡ suc tail → Backed h (flagged (now (rows .entry))) (suc k))) ⌝ }
+{
+    if (twice >> tail) % 2 == 1 {
+        if backed(m, tails, heads, rows, k) {
+            return found;
+        }
+    }
+    found ^ (found & (1 << tail))
+}
+
+// The place that a rank ends in, or 0 where that is no row.
+fn place_of(rank: u64, m: usize) -> usize
+    requires { ⌜ 1 ≤ m ⌝ }
+    ensures { λ r. ⌜ r < m ⌝ }
+{
+    let place = (rank % 256) as usize;
+    if place < m { place } else { 0 }
+}
+
+// The place of a junction.
+fn place(junction: u8) -> usize
+    requires { ⌜ (1 ≤ junction) × (junction ≤ 64) ⌝ }
+    ensures { λ r. ⌜ (suc r ≡ junction) × (r < 64) ⌝ }
+{
+    (junction - 1) as usize
+}
+
+// Rows that join a linked hall.
+pub fn start<'a>(
+    n: usize,
+    m: usize,
+    tails: &'a [u8; 256],
+    heads: &'a [u8; 256],
+    prices: &'a [u32; 256],
+) -> [bool; 256]
+    requires { ⌜ Ends n m (now tails) (now heads) ⌝ }
+    ensures { λ r. ⌜ ((h : Hall) → Columns h n m (now (tails .entry)) (now (heads .entry)) → Ranged h → Linked h →
+        Joining h (once (flagged r))) ⌝ }
+{
+    let order = order::dearest_first(m, prices);
+    let mut rows = first_rows(m);
+    let mut arcs = adjacency::of_rows(n, m, tails, heads, &rows);
+    let twice = tight::solid_arcs(n, m, tails, heads, &rows);
+    let mut turn: usize = 0;
+    while turn < m {
+        let k = place_of(order[turn], m);
+        let head = place(heads[k]);
+        let tail = place(tails[k]);
+        let found = arcs[head];
+        let rest = spared_arcs(m, tails, heads, &rows, k, tail, found, twice[head]);
+        arcs[head] = rest;
+        let dropped = leads(&arcs, head + 1, tail + 1);
+        if dropped {
+            rows[k] = false;
+        } else {
+            arcs[head] = found;
+        }
+        turn += 1;
+    }
+    rows
+}
