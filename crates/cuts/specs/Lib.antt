@@ -1,0 +1,6 @@
+pub mod Listed
+pub mod Columns
+pub mod Thresholds
+pub mod Shores
+pub mod Beside
+pub mod Levels

@@ -1,0 +1,107 @@
+// Adjacencies and sets of junctions that the cuts are made from, and the values of a potential.
+use junctions::Junctions;
+ghost use mathlib.Core.Path.{_≡_};
+ghost use mathlib.Core.Bool.{Bool};
+ghost use Prim.Native.Nat.{ℕ, suc, _+_, _≤_, _<_};
+ghost use lib.ListN.{length};
+ghost use Rattle.junctions.specs.Sets.{holds, gather};
+ghost use Rattle.digraph.specs.Adjacency.{out-of};
+ghost use Rattle.certificates.specs.Pieces.{inside};
+ghost use Rattle.certificates.specs.Cuts.{upper};
+ghost use Rattle.cuts.specs.Thresholds.{mates-by, Next};
+
+// The arcs that end in the set.
+pub fn within(adjacency: &[u64; 64], set: u64) -> [u64; 64]
+    ensures { λ r. ⌜ (length r ≡ 64) × ((j : ℕ) → 1 ≤ j → j ≤ 64 → out-of r j ≡ inside set (out-of (now (adjacency .entry))) j) ⌝ }
+{
+    let mut arcs = [0u64; 64];
+    let mut k: usize = 0;
+    while k < 64 {
+        arcs[k] = set & adjacency[k];
+        k += 1;
+    }
+    arcs
+}
+
+// The set of some of the first k junctions, with the next one too if it is to be in.
+pub fn extended(set: u64, k: usize, next: bool) -> u64
+    requires { ⌜ k < 64 ⌝ }
+    ensures { λ r. ⌜ ((p : ℕ → Bool) → set ≡ gather k p → next ≡ p (suc k) → r ≡ gather (k + 1) p) ⌝ }
+{
+    if next { set | (1 << k) } else { set }
+}
+
+// The junctions whose potential is at least the threshold.
+pub fn upper_set(potential: &[u64; 64], n: usize, threshold: u64) -> u64
+    requires { ⌜ n ≤ 64 ⌝ }
+    ensures { λ r. ⌜ r ≡ upper n (out-of (now (potential .entry))) threshold ⌝ }
+{
+    let mut set: u64 = 0;
+    let mut k: usize = 0;
+    while k < n {
+        set = extended(set, k, threshold <= potential[k]);
+        k += 1;
+    }
+    set
+}
+
+// The mates of junction a.
+pub fn mates_of(around: &[u64; 64], n: usize, a: usize) -> u64
+    requires { ⌜ (n ≤ 64) × (1 ≤ a) × (a ≤ 64) ⌝ }
+    ensures { λ r. ⌜ r ≡ mates-by n (out-of (now (around .entry))) a ⌝ }
+{
+    let own = around[a - 1];
+    let mut set: u64 = 0;
+    let mut k: usize = 0;
+    while k < n {
+        let there = Junctions(own).holds(k + 1);
+        let back = Junctions(around[k]).holds(a);
+        set = extended(set, k, there | back);
+        k += 1;
+    }
+    set
+}
+
+// The mates of each junction.
+pub fn mates(around: &[u64; 64], n: usize) -> [u64; 64]
+    requires { ⌜ n ≤ 64 ⌝ }
+    ensures { λ r. ⌜ (length r ≡ 64) × ((a : ℕ) → 1 ≤ a → a ≤ n → out-of r a ≡ mates-by n (out-of (now (around .entry))) a) ⌝ }
+{
+    let mut sets = [0u64; 64];
+    let mut k: usize = 0;
+    while k < n {
+        sets[k] = mates_of(around, n, k + 1);
+        k += 1;
+    }
+    sets
+}
+
+// The better of the next value so far and one more value.
+pub fn nearer(low: u64, best: u64, value: u64) -> u64
+    ensures { λ r. ⌜ ((p : ℕ → ℕ) (k : ℕ) → value ≡ p (suc k) → Next k p low best → Next (k + 1) p low r) ⌝ }
+{
+    if value <= low {
+        return best;
+    }
+    if best == low {
+        return value;
+    }
+    if best <= value {
+        return best;
+    }
+    value
+}
+
+// The next value over `low` that the potential takes, or `low`.
+pub fn next_value(potential: &[u64; 64], n: usize, low: u64) -> u64
+    requires { ⌜ n ≤ 64 ⌝ }
+    ensures { λ r. ⌜ Next n (out-of (now (potential .entry))) low r ⌝ }
+{
+    let mut best = low;
+    let mut k: usize = 0;
+    while k < n {
+        best = nearer(low, best, potential[k]);
+        k += 1;
+    }
+    best
+}

@@ -1,0 +1,60 @@
+// The shores of a set of junctions: for each class, for each component of the hall without it, what lies outside the component.
+use crate::list;
+use crate::sets;
+use junctions::Junctions;
+ghost use Prim.Native.Nat.{_^_, _≤_, _<_};
+ghost use Rattle.digraph.specs.Adjacency.{out-of};
+ghost use Rattle.certificates.specs.Pieces.{Mutual};
+ghost use Rattle.cuts.specs.Listed.{Fits, Added};
+ghost use Rattle.cuts.specs.Shores.{components-weigh, classes-weigh};
+
+// Adds the weight to what lies outside each component of the hall without the class.
+pub fn add_components(
+    n: usize,
+    links: &[u64; 64],
+    class: u64,
+    weight: u32,
+    shores: &mut [u64],
+    weights: &mut [u32],
+    count: usize,
+) -> usize
+    requires { ⌜ (n ≤ 64) × (0 < weight) × Mutual n (out-of (now links)) × Fits count (now shores) (now weights) (components-weigh n (out-of (now links)) class weight) ⌝ }
+    ensures { λ r. ⌜ Added count (now (shores .entry)) (now (weights .entry)) (components-weigh n (out-of (now (links .entry))) class weight) r (now (shores .exit)) (now (weights .exit)) ⌝ }
+{
+    let all = Junctions::full(n).0;
+    let free = all ^ (all & class);
+    let inside = sets::within(links, free);
+    let mut left = free;
+    let mut filled = count;
+    while left != 0 {
+        let component = digraph::reach(&inside, 1 << u64::trailing_zeros(left));
+        filled = list::add(shores, weights, filled, all ^ (all & component), weight);
+        left = left ^ (left & component);
+    }
+    filled
+}
+
+// The same for each class of the set.
+pub fn add_classes<'a, 'b>(
+    n: usize,
+    links: &'a [u64; 64],
+    mates: &'b [u64; 64],
+    set: u64,
+    weight: u32,
+    shores: &mut [u64],
+    weights: &mut [u32],
+    count: usize,
+) -> usize
+    requires { ⌜ (n ≤ 64) × (0 < weight) × (set < 2 ^ n) × Mutual n (out-of (now links)) × Mutual n (out-of (now mates)) × Fits count (now shores) (now weights) (classes-weigh n (out-of (now links)) (out-of (now mates)) set weight) ⌝ }
+    ensures { λ r. ⌜ Added count (now (shores .entry)) (now (weights .entry)) (classes-weigh n (out-of (now (links .entry))) (out-of (now (mates .entry))) set weight) r (now (shores .exit)) (now (weights .exit)) ⌝ }
+{
+    let inside = sets::within(mates, set);
+    let mut left = set;
+    let mut filled = count;
+    while left != 0 {
+        let class = digraph::reach(&inside, 1 << u64::trailing_zeros(left));
+        filled = add_components(n, links, class, weight, shores, weights, filled);
+        left = left ^ (left & class);
+    }
+    filled
+}

@@ -1,0 +1,15 @@
+-- Columns whose first places are given, and prices within the limit. Assumes nothing: these are definitions.
+use mathlib.Core.Path.{_≡_}
+use mathlib.Core.List.{List}
+use Prim.Native.Nat.{ℕ, _≤_, _<_}
+use lib.ListN.{getD, length}
+
+-- the first k places of the column are at f, all others at 0
+pub record Padded (size : ℕ) (f : ℕ → ℕ) (k : ℕ) (column : List ℕ) : Type 0 where
+  pub long : length column ≡ size
+  pub first : (i : ℕ) → i < k → getD column i 0 ≡ f i
+  pub rest : (i : ℕ) → k ≤ i → getD column i 0 ≡ 0
+
+-- none of the first m prices is over 1,000,000
+abbrev pub Priced : (m : ℕ) → (prices : List ℕ) → Type 0
+Priced m prices = (k : ℕ) → k < m → getD prices k 0 ≤ 1000000
