@@ -1,0 +1,9 @@
+pub mod Answers
+pub mod Check
+pub mod Reading
+pub mod Opening
+pub mod Tight
+pub mod Fronts
+pub mod Lent
+pub mod Plan
+pub mod Replies

@@ -1,0 +1,35 @@
+-- Replies as numbers: place by place, and what a caller in another language is left with. Assumes nothing.
+use mathlib.Core.Path.{_≡_, refl}
+use mathlib.Core.List.{List, [], _∷_}
+use Prim.Native.Nat.{ℕ}
+use lib.IntN.{ℤ}
+use Rattle.hallfile.specs.Kinds.{refusal-of}
+use Rattle.himalowen.specs.declared.Told.{Told}
+use Rattle.himalowen.specs.declared.Planned.{Planned}
+use Rattle.himalowen.specs.Answers.{outcome-of, set-of}
+use Rattle.himalowen.specs.Entry.{Check-says, Tight-says, Plan-says}
+use Rattle.himalowen.specs.Replies.{told-places, planned-places, Check-leaves, Tight-leaves, Plan-leaves}
+
+pub told-listed : (t : Told) (a b o s : ℕ) → a ≡ refusal-of (t .refusal) .number → b ≡ refusal-of (t .refusal) .place → o ≡ outcome-of (t .found) → s ≡ set-of (t .found)
+    → a ∷ b ∷ o ∷ s ∷ [] ≡ told-places t
+unfolding told-places
+told-listed t a b o s p q e f = rw p (rw q (rw e (rw f refl)))
+
+pub planned-listed : (x : Planned) (a b : ℕ) → a ≡ refusal-of (x .refusal) .number → b ≡ refusal-of (x .refusal) .place
+    → a ∷ b ∷ x .chosen ∷ x .cuts ∷ x .levels ∷ x .total ∷ [] ≡ planned-places x
+unfolding planned-places
+planned-listed x a b p q = rw p (rw q refl)
+
+pub check-left : (bs c : List ℕ) (t : Told) (r : ℕ) (x : List ℕ) → Check-says bs c t → x ≡ told-places t → r ≡ refusal-of (t .refusal) .number → Check-leaves bs c r x
+unfolding Check-leaves
+check-left bs c t r x s p q = (t, s, p, q)
+
+pub tight-left : (bs c : List ℕ) (j : ℕ) (t : Told) (r : ℕ) (x : List ℕ) → Tight-says bs c j t → x ≡ told-places t → r ≡ refusal-of (t .refusal) .number
+    → Tight-leaves bs c j r x
+unfolding Tight-leaves
+tight-left bs c j t r x s p q = (t, s, p, q)
+
+pub plan-left : (bs : List ℕ) (p : Planned) (r : ℕ) (v a x b y q z : List ℕ) (d w : List ℤ) → Plan-says bs p a x b y q z d w → v ≡ planned-places p
+    → r ≡ refusal-of (p .refusal) .number → Plan-leaves bs r v a x b y q z d w
+unfolding Plan-leaves
+plan-left bs p r v a x b y q z d w s e f = (p, s, e, f)

@@ -1,0 +1,5 @@
+pub mod Answers
+pub mod Entry
+pub mod Lent
+pub mod Opening
+pub mod Replies

@@ -1,0 +1,32 @@
+-- What a caller in another language reads: each reply as numbers, in the order of its fields. Assumes nothing: these are definitions.
+use mathlib.Core.Path.{_≡_}
+use mathlib.Core.List.{List, [], _∷_}
+use Prim.Native.Nat.{ℕ}
+use lib.IntN.{ℤ}
+use Rattle.hallfile.specs.Kinds.{refusal-of}
+use Rattle.himalowen.specs.declared.Told.{Told}
+use Rattle.himalowen.specs.declared.Planned.{Planned}
+use Rattle.himalowen.specs.Answers.{outcome-of, set-of}
+use Rattle.himalowen.specs.Entry.{Check-says, Tight-says, Plan-says}
+
+-- number, row, outcome, set
+unfoldable pub told-places : Told → List ℕ
+told-places t = refusal-of (t .refusal) .number ∷ refusal-of (t .refusal) .place ∷ outcome-of (t .found) ∷ set-of (t .found) ∷ []
+
+-- number, row, chosen, cuts, levels, total
+unfoldable pub planned-places : Planned → List ℕ
+planned-places p =
+    refusal-of (p .refusal) .number ∷ refusal-of (p .refusal) .place ∷ p .chosen ∷ p .cuts ∷ p .levels ∷ p .total ∷ []
+
+-- the reply's places are those of an answer of the check; its number is returned
+unfoldable pub Check-leaves : (bs c : List ℕ) → (returned : ℕ) → (reply : List ℕ) → Type 0
+Check-leaves bs c r x = (t : Told) × Check-says bs c t × (x ≡ told-places t) × (r ≡ refusal-of (t .refusal) .number)
+
+-- the same for the tight neighbourhood
+unfoldable pub Tight-leaves : (bs c : List ℕ) → (j returned : ℕ) → (reply : List ℕ) → Type 0
+Tight-leaves bs c j r x = (t : Told) × Tight-says bs c j t × (x ≡ told-places t) × (r ≡ refusal-of (t .refusal) .number)
+
+-- the same for the plan, with the lent lists before and after
+unfoldable pub Plan-leaves : List ℕ → (returned : ℕ) → (reply : List ℕ) → (a a-now b b-now c c-now : List ℕ) → (d d-now : List ℤ) → Type 0
+Plan-leaves bs r v a x b y q z d w =
+    (p : Planned) × Plan-says bs p a x b y q z d w × (v ≡ planned-places p) × (r ≡ refusal-of (p .refusal) .number)
