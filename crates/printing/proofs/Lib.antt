@@ -1,0 +1,9 @@
+pub mod Decimal
+pub mod Lines
+pub mod Parts
+pub mod Placed
+pub mod Recorded
+pub mod Samples
+pub mod Sets
+pub mod Signs
+pub mod Texts

@@ -1,0 +1,31 @@
+-- `printing::put_number_line` meets its contract: the word, the number, the line's end. Assumes nothing.
+use Prim.Native.Nat.{_≤_}
+use native.Mathlib.Omega.{arith}
+use lib.ListN.{length}
+use borrow.Author.Needs.{needs}
+use Rattle.printing.proofs.Placed.{begun, further, ended}
+use Rattle.printing.proofs.Lines.{number-line-length, number-line-pieces}
+use Rattle.printing.proofs.put_number_line.Statement.{statement}
+use Rattle.printing.proofs.put_number_line.Tie as tie
+
+put-text-requires : tie.Need-put-text-requires
+put-text-requires c κs = let s = c .before .before .before in omega (arith, number-line-length (s .args .word .now) (s .args .a))
+
+put-number-requires : tie.Need-put-number-requires
+put-number-requires c κs = let s = c .before .before .before .before .before .before .before in omega (arith, number-line-length (s .args .word .now) (s .args .a))
+
+put-byte-requires : tie.Need-put-byte-requires
+put-byte-requires c κs = let s = c .before .before .before .before .before .before .before .before .before .before .before in omega (arith, number-line-length (s .args .word .now) (s .args .a))
+
+same-length : tie.Need-same-length
+same-length c = search needs
+
+returns : tie.Need-returns
+returns c = let s = c .before .before .before .before .before .before .before .before .before .before .before .before .before .before in
+    let low : s .args .at ≤ length (s .args .out .now) = omega arith in
+    ended (further low (further low (further low (begun {at = s .args .at} {d = s .args .out .now} (number-line-pieces (s .args .word .now) (s .args .a))) (c .before .before .before .before .before .before .before .before .before .before .put-text .ensures)) (c .before .before .before .before .before .before .put-number .ensures)) (c .before .before .put-byte .ensures))
+
+pub put-number-line-spec : {M : Type 1} → statement M
+put-number-line-spec =
+    tie.close
+    (tie.spec put-text-requires put-number-requires put-byte-requires same-length returns)
