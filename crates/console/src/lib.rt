@@ -1,0 +1,152 @@
+// What the programs share: numbers from text, the bytes of a file, and the lines that they print.
+ghost use Prim.Native.Nat.{_≤_};
+ghost use Rattle.io.specs.Counts.{Counts};
+use hallfile::Kind;
+use himalowen::Finding;
+use himalowen::Told;
+use junctions::Junctions;
+use libc::STDOUT_FILENO;
+
+// Numbers as they are read from text: those that are done, and the digits of the next.
+pub struct Numbers {
+    pub list: [u32; 257],
+    pub count: usize,
+    value: u32,
+    started: bool,
+}
+
+// A number that is done goes into the list. Those after the first 257 are left out: 257 are no choice already.
+fn ended(numbers: Numbers) -> Numbers
+    requires { ⌜ numbers .count ≤ 257 ⌝ }
+    ensures { λ r. ⌜ r .count ≤ 257 ⌝ }
+{
+    if !numbers.started {
+        return numbers;
+    }
+    let mut next = numbers;
+    if next.count < 257 {
+        let at = next.count;
+        next.list[at] = next.value;
+        next.count = at + 1;
+    }
+    next.value = 0;
+    next.started = false;
+    next
+}
+
+fn with_byte(numbers: Numbers, byte: u8) -> Numbers
+    requires { ⌜ numbers .count ≤ 257 ⌝ }
+    ensures { λ r. ⌜ r .count ≤ 257 ⌝ }
+{
+    if byte < b'0' {
+        return ended(numbers);
+    }
+    if b'9' < byte {
+        return ended(numbers);
+    }
+    let mut next = numbers;
+    if next.value < 100_000_000 {
+        next.value = 10 * next.value + ((byte - b'0') as u32);
+    }
+    next.started = true;
+    next
+}
+
+// The numbers that stand in a text, whatever stands between them.
+pub fn numbers_in(text: &[u8]) -> Numbers
+    ensures { λ r. ⌜ r .count ≤ 257 ⌝ }
+{
+    let mut numbers = Numbers {
+        list: [0; 257],
+        count: 0,
+        value: 0,
+        started: false,
+    };
+    let mut i: usize = 0;
+    while i < text.len() {
+        numbers = with_byte(numbers, text[i]);
+        i += 1;
+    }
+    ended(numbers)
+}
+
+fn print_set(word: &[u8], set: Junctions) {
+    io::write_all(STDOUT_FILENO, word);
+    let mut j: usize = 1;
+    while j <= 64 {
+        if set.holds(j) {
+            io::write_all(STDOUT_FILENO, b" ");
+            io::print_decimal(STDOUT_FILENO, j as u64);
+        }
+        j += 1;
+    }
+    io::write_all(STDOUT_FILENO, b"\n");
+}
+
+fn print_refusal(number: u64, row: u32) {
+    io::write_all(STDOUT_FILENO, b"REFUSED ");
+    io::print_decimal(STDOUT_FILENO, number);
+    io::write_all(STDOUT_FILENO, b" ");
+    io::print_decimal(STDOUT_FILENO, row as u64);
+    io::write_all(STDOUT_FILENO, b"\n");
+}
+
+fn print_found(found: Finding) {
+    match found {
+        Finding::Nothing => {}
+        Finding::Joins => {
+            io::write_all(STDOUT_FILENO, b"JOINS\n");
+        }
+        Finding::Misses(shore) => print_set(b"MISSES", shore),
+        Finding::Around(set) => print_set(b"AROUND", set),
+    }
+}
+
+// A refusal's line, or that of what was found.
+pub fn print_told(told: Told) {
+    let refusal = told.refusal;
+    let found = told.found;
+    match refusal {
+        Kind::None => print_found(found),
+        Kind::ListShort => print_refusal(1, 0),
+        Kind::FileLength => print_refusal(2, 0),
+        Kind::JunctionCount => print_refusal(3, 0),
+        Kind::Blocks => print_refusal(4, 0),
+        Kind::RowCount => print_refusal(5, 0),
+        Kind::RowEnds(row) => print_refusal(6, row),
+        Kind::RowLoop(row) => print_refusal(7, row),
+        Kind::RowPrice(row) => print_refusal(8, row),
+        Kind::Unjoined => print_refusal(9, 0),
+        Kind::Choice => print_refusal(10, 0),
+    }
+}
+
+// A file's bytes, as many as one more than a hall file may have.
+pub struct Contents {
+    pub bytes: [u8; 65_537],
+    pub size: usize,
+    pub opened: bool,
+}
+
+// Where the file cannot be opened, standard error says why.
+pub fn read_file(name: &[u8]) -> Contents
+    ensures { λ r. ⌜ Counts (r .size) (r .bytes) ⌝ }
+{
+    let mut bytes = [0u8; 65_537];
+    let fd = os::open_read(name);
+    if fd < 0 {
+        os::fail(name);
+        return Contents {
+            bytes,
+            size: 0,
+            opened: false,
+        };
+    }
+    let size = io::read_full(fd, &mut bytes);
+    libc::close(fd);
+    Contents {
+        bytes,
+        size,
+        opened: true,
+    }
+}

@@ -1,0 +1,17 @@
+-- `exhaustive::whole` meets its contract. Assumes nothing.
+use native.Mathlib.Omega.{arith}
+use borrow.Author.Needs.{needs}
+use Rattle.exhaustive.proofs.whole.Statement.{statement}
+use Rattle.exhaustive.proofs.whole.Tie as tie
+
+subsets-requires : tie.Need-subsets-requires
+subsets-requires c κs = search needs
+
+sub-result : tie.Need-sub-result
+sub-result c = search needs
+
+returns : tie.Need-returns
+returns c = omega (arith, c .subsets .ensures .2 (c .before .pre))
+
+pub whole-spec : {M : Type 1} → statement M
+whole-spec = tie.close (tie.spec subsets-requires sub-result returns)

@@ -1,0 +1,51 @@
+// Marks that no plan writes, and whether a list still has them from a place on.
+
+pub const NUMBER: u32 = 4_000_000_007;
+
+pub const SHORE: u64 = 9_000_000_000_000_000_011;
+
+pub const LEVEL: i32 = 2_000_000_011;
+
+pub fn rows_kept(rows: [u32; 256], from: usize) -> bool {
+    let mut i = from;
+    while i < 256 {
+        if rows[i] != NUMBER {
+            return false;
+        }
+        i += 1;
+    }
+    true
+}
+
+pub fn shores_kept(shores: [u64; 125], from: usize) -> bool {
+    let mut i = from;
+    while i < 125 {
+        if shores[i] != SHORE {
+            return false;
+        }
+        i += 1;
+    }
+    true
+}
+
+pub fn weights_kept(weights: [u32; 125], from: usize) -> bool {
+    let mut i = from;
+    while i < 125 {
+        if weights[i] != NUMBER {
+            return false;
+        }
+        i += 1;
+    }
+    true
+}
+
+pub fn levels_kept(levels: [i32; 64], from: usize) -> bool {
+    let mut i = from;
+    while i < 64 {
+        if levels[i] != LEVEL {
+            return false;
+        }
+        i += 1;
+    }
+    true
+}

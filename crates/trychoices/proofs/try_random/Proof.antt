@@ -1,0 +1,58 @@
+-- `trychoices::try_random` meets its contract. Assumes nothing.
+use Prim.Native.Nat.{_≤_, _-_}
+use borrow.Author.Needs.{needs}
+use Rattle.trychoices.proofs.try_random.Statement.{statement}
+use Rattle.trychoices.proofs.try_random.Tie as tie
+
+abbrev Inv-loop : tie.InvT-loop
+Inv-loop halls start tally₀ seed₀ k₀ t8 tally seed k = k ≤ halls
+
+abbrev μ-loop : tie.MeasureT-loop
+μ-loop halls start tally₀ seed₀ k₀ t8 tally seed k = halls - k
+
+loop-holds : tie.Need-loop-holds Inv-loop μ-loop
+loop-holds c = search needs
+
+random-requires : tie.Need-random-requires Inv-loop μ-loop
+random-requires c κs = search needs
+
+counted-requires : tie.Need-counted-requires Inv-loop μ-loop
+counted-requires c κs = search needs
+
+add-k : tie.Need-add-k Inv-loop μ-loop
+add-k c = search needs
+
+loop-less : tie.Need-loop-less Inv-loop μ-loop
+loop-less c = search needs
+
+loop-again : tie.Need-loop-again Inv-loop μ-loop
+loop-again c = search needs
+
+slice-aggregate-print-item : tie.Need-slice-aggregate-print-item Inv-loop μ-loop
+slice-aggregate-print-item c = search needs
+
+print-item-requires : tie.Need-print-item-requires Inv-loop μ-loop
+print-item-requires c κs = search needs
+
+print-tally-requires : tie.Need-print-tally-requires Inv-loop μ-loop
+print-tally-requires c κs = search needs
+
+returns : tie.Need-returns Inv-loop μ-loop
+returns c = search needs
+
+pub try-random-spec : {M : Type 1} → statement M
+try-random-spec =
+    tie.close
+    (tie.spec
+    Inv-loop
+    μ-loop
+    loop-holds
+    random-requires
+    counted-requires
+    add-k
+    loop-less
+    loop-again
+    slice-aggregate-print-item
+    print-item-requires
+    print-tally-requires
+    returns)
