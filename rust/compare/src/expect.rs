@@ -1,0 +1,127 @@
+//! What each call must answer, by the oracle. Each test gives back what differs, or nothing.
+
+use halls::Random;
+use oracle::Claim;
+
+use crate::{Lists, Planned, Planner};
+
+type Outcome = Result<(), String>;
+
+fn same<T: PartialEq + std::fmt::Debug>(what: &str, given: T, expected: T) -> Outcome {
+    if given == expected {
+        Ok(())
+    } else {
+        Err(format!("{what}: {given:?}, expected {expected:?}"))
+    }
+}
+
+/// Check and tight neighbourhoods on a few choices, and on lists that are no choice.
+pub fn check_and_tight(planner: &Planner, file: &[u8], seed: u64) -> Outcome {
+    let mut random = Random::new(seed);
+    let count = oracle::hall_in(file).map_or(3, |hall| hall.rows.len()) as u32;
+    let all: Vec<u32> = (1..=count).collect();
+    let mut choices = vec![vec![], all.clone(), vec![0], vec![count + 1], vec![1, 1], vec![2, 1]];
+    for keep in 1..=3 {
+        choices.push(all.iter().copied().filter(|_| random.below(4) < keep).collect());
+    }
+    choices.push(spared(file, all, &mut random));
+    for choice in &choices {
+        same("check", (planner.check)(file, choice), oracle::check(file, choice))?;
+    }
+    for choice in choices.iter().skip(1).step_by(2).chain(choices.last()) {
+        for junction in [0, 1, random.within(1, 65) as u32, random.within(1, 6) as u32, u32::MAX] {
+            tight(planner, file, choice, junction)?;
+        }
+    }
+    Ok(())
+}
+
+/// A joining choice that can spare few rows, for files that hold a hall.
+fn spared(file: &[u8], mut choice: Vec<u32>, random: &mut Random) -> Vec<u32> {
+    for _ in 0..choice.len() {
+        let at = random.below(choice.len());
+        let mut rest = choice.clone();
+        rest.remove(at);
+        if oracle::check(file, &rest)[2] == 1 {
+            choice = rest;
+        }
+    }
+    choice
+}
+
+/// By two paths in every hall, and by all tight shores where there are few junctions.
+fn tight(planner: &Planner, file: &[u8], choice: &[u32], junction: u32) -> Outcome {
+    let given = (planner.tight)(file, choice, junction);
+    same("tight", given, oracle::tight(file, choice, junction))?;
+    match oracle::hall_in(file) {
+        Ok(hall) if hall.n <= 8 && given[2] == 3 && (1..=hall.n).contains(&junction.into()) => {
+            same("tight by shores", given[3], oracle::neighbourhood_by_shores(&hall, choice, junction.into()))
+        }
+        _ => Ok(()),
+    }
+}
+
+/// The plan's certificate, the lent lists after the filled places, and refusals.
+pub fn plan(planner: &Planner, file: &[u8]) -> Outcome {
+    planned(planner, file).map(|_| ())
+}
+
+/// The same, and the choice is the first of all.
+pub fn small_plan(planner: &Planner, file: &[u8]) -> Outcome {
+    let (reply, lent) = planned(planner, file)?;
+    match oracle::hall_in(file) {
+        Ok(hall) => {
+            let first_choice = match hall.rows.len() {
+                0..=16 => oracle::first_choice,
+                _ => oracle::first_choice_by_branching,
+            };
+            let (first, total) = first_choice(&hall);
+            same("choice", &lent.rows[..reply[2] as usize], &first)?;
+            same("total", reply[5], total)
+        }
+        Err(_) => Ok(()),
+    }
+}
+
+fn planned(planner: &Planner, file: &[u8]) -> Result<(Planned, Lists), String> {
+    let mut lent = Lists::marked(257, 125, 126, 64);
+    let untouched = lent.clone();
+    let reply = (planner.plan)(file, &mut lent);
+    match oracle::hall_in(file) {
+        Err((number, row)) => {
+            same("plan", reply, [number, row, 0, 0, 0, 0])?;
+            same("lists of a refused plan", &lent, &untouched)?;
+        }
+        Ok(hall) => {
+            let [chosen, cuts, levels] = [reply[2], reply[3], reply[4]].map(|length| length as usize);
+            same("plan's number and row", &reply[..2], &[0, 0])?;
+            same("lengths that fit", chosen <= 256 && cuts <= 125 && levels <= 64, true)?;
+            let claim = Claim {
+                rows: &lent.rows[..chosen],
+                shores: &lent.shores[..cuts],
+                weights: &lent.weights[..cuts],
+                levels: &lent.levels[..levels],
+                total: reply[5],
+            };
+            same("faults", oracle::faults(&hall, &claim), vec![])?;
+            same("rows after", &lent.rows[chosen..], &untouched.rows[chosen..])?;
+            same("shores after", &lent.shores[cuts..], &untouched.shores[cuts..])?;
+            same("weights after", &lent.weights[cuts..], &untouched.weights[cuts..])?;
+            same("levels after", &lent.levels[levels..], &untouched.levels[levels..])?;
+        }
+    }
+    Ok((reply, lent))
+}
+
+/// Refusal 1 comes before all others and writes nothing.
+pub fn short_lists(planner: &Planner, file: &[u8]) -> Outcome {
+    for (rows, shores, weights, levels) in
+        [(255, 125, 125, 64), (256, 124, 125, 64), (256, 125, 124, 64), (256, 125, 125, 63), (0, 0, 0, 0)]
+    {
+        let mut lent = Lists::marked(rows, shores, weights, levels);
+        let untouched = lent.clone();
+        same("plan with a short list", (planner.plan)(file, &mut lent), [1, 0, 0, 0, 0, 0])?;
+        same("short lists", &lent, &untouched)?;
+    }
+    Ok(())
+}

@@ -1,0 +1,100 @@
+//! Tries each planner on halls and files from fixed seeds and compares every answer with the oracle's.
+//! `compare [TIMES]` tries so many times as many random halls.
+
+use compare::{check_and_tight, plan, planners, short_lists, small_plan, Planner};
+use halls::{all_halls, damaged, full_hall, random_files, random_hall, sized_files, starred, KINDS};
+
+type Test = fn(&Planner, &[u8], u64) -> Result<(), String>;
+
+struct Suite {
+    what: String,
+    files: Box<dyn Iterator<Item = Vec<u8>>>,
+    test: Test,
+}
+
+fn suite(what: impl Into<String>, files: impl Iterator<Item = Vec<u8>> + 'static, test: Test) -> Suite {
+    Suite { what: what.into(), files: Box::new(files), test }
+}
+
+const PLAN: Test = |planner, file, _| plan(planner, file);
+
+const PLAN_OF_SMALL: Test = |planner, file, _| small_plan(planner, file);
+
+const ALL_OF_SMALL: Test = |planner, file, seed| {
+    small_plan(planner, file)?;
+    check_and_tight(planner, file, seed)
+};
+
+const ALL: Test = |planner, file, seed| {
+    plan(planner, file)?;
+    check_and_tight(planner, file, seed)
+};
+
+fn full_halls(n: usize, seeds: u64) -> impl Iterator<Item = Vec<u8>> {
+    KINDS.into_iter().flat_map(move |kind| (0..seeds).map(move |seed| full_hall(kind, n, seed)))
+}
+
+fn suites(times: u64) -> Vec<Suite> {
+    let mut suites = vec![
+        suite("halls of the scope", starred().into_iter(), ALL_OF_SMALL),
+        suite("lists that are too short", starred().into_iter().chain([vec![]]), |p, file, _| short_lists(p, file)),
+        suite("halls and files at the limits", sized_files().into_iter(), ALL),
+        suite("damaged files", (0..40).flat_map(|seed| damaged(&random_hall(6, 10, seed), seed)), ALL),
+        suite("random files of every length", random_files(2_500, 7), ALL),
+    ];
+    for (n, rows, prices) in [(1, 0, 1), (2, 0, 1), (2, 1, 4), (2, 2, 4), (2, 3, 4), (3, 2, 3), (3, 3, 3), (4, 3, 2)] {
+        let what = format!("all halls: {n} junctions, {rows} rows, prices below {prices}");
+        suites.push(suite(what, all_halls(n, rows, prices), ALL_OF_SMALL));
+    }
+    for (n, rows, prices) in [(3, 4, 3), (3, 5, 2), (4, 4, 2)] {
+        let what = format!("plans of all halls: {n} junctions, {rows} rows, prices below {prices}");
+        suites.push(suite(what, all_halls(n, rows, prices), PLAN_OF_SMALL));
+    }
+    for (n, rows, count) in [(6, 10, 40_000), (8, 16, 1_000), (8, 32, 1_000), (12, 30, 1_000)] {
+        let files = (0..count * times).map(move |seed| random_hall(n, rows, seed));
+        suites.push(suite(format!("random halls up to {n} junctions and {rows} rows"), files, ALL_OF_SMALL));
+    }
+    for (n, rows, count) in [(16, 48, 20_000), (64, 256, 2_000)] {
+        let files = (0..count * times).map(move |seed| random_hall(n, rows, seed));
+        suites.push(suite(format!("certificates of halls up to {n} junctions and {rows} rows"), files, PLAN));
+    }
+    suites.push(suite("full halls of 8 junctions", full_halls(8, 12 * times), ALL_OF_SMALL));
+    for n in [16, 32, 64] {
+        suites.push(suite(format!("full halls of {n} junctions"), full_halls(n, 12 * times), ALL));
+    }
+    suites
+}
+
+/// Runs a test on each file and prints how many differ, with the first of them. Gives how many were tried and differ.
+fn run(planner: &Planner, suite: Suite) -> (u64, u64) {
+    let (mut tried, mut differences) = (0, 0);
+    for file in suite.files {
+        tried += 1;
+        if let Err(difference) = (suite.test)(planner, &file, tried) {
+            if differences == 0 {
+                println!("{difference}\nfile {file:02x?}");
+            }
+            differences += 1;
+        }
+    }
+    print_counts(planner, &suite.what, tried, differences);
+    (tried, differences)
+}
+
+fn print_counts(planner: &Planner, what: &str, tried: u64, differences: u64) {
+    println!("{:10} {what:58} {tried:8} tried {differences:4} differ", planner.name);
+}
+
+fn main() {
+    let times: u64 = std::env::args().nth(1).map_or(1, |word| word.parse().expect("a number of times"));
+    let mut wrong = 0;
+    for planner in &planners() {
+        let counts: Vec<(u64, u64)> = suites(times).into_iter().map(|suite| run(planner, suite)).collect();
+        let (tried, differences) = counts.iter().fold((0, 0), |(a, b), (c, d)| (a + c, b + d));
+        print_counts(planner, "all files", tried, differences);
+        wrong += differences;
+    }
+    if wrong > 0 {
+        std::process::exit(1);
+    }
+}

@@ -1,0 +1,69 @@
+//! Small halls: every shore, every choice.
+
+use crate::{entering, everything, holds, is_cut, Hall};
+
+/// All shores of directed cuts.
+fn shores(hall: &Hall) -> Vec<u64> {
+    (1..everything(hall)).filter(|&shore| is_cut(hall, shore)).collect()
+}
+
+/// The junctions in every tight shore that holds `v`.
+pub fn neighbourhood_by_shores(hall: &Hall, choice: &[u32], v: u64) -> u64 {
+    shores(hall)
+        .into_iter()
+        .filter(|&shore| holds(shore, v) && entering(hall, shore, choice) == 1)
+        .fold(everything(hall), |around, shore| around & shore)
+}
+
+/// The rows of each directed cut, row i as 2^(i - 1).
+fn cuts(hall: &Hall) -> Vec<u64> {
+    let rows_into = |shore| (0..hall.rows.len()).filter(|&i| hall.rows[i].enters(shore)).map(|i| 1 << i).sum();
+    shores(hall).into_iter().map(rows_into).collect()
+}
+
+/// By total, then row count, then dictionary order.
+type Rank = (u64, usize, Vec<u32>);
+
+fn rank(hall: &Hall, choice: u64) -> Rank {
+    let numbers: Vec<u32> = (1..=hall.rows.len() as u32).filter(|i| choice >> (i - 1) & 1 == 1).collect();
+    (numbers.iter().map(|&i| hall.rows[i as usize - 1].price).sum(), numbers.len(), numbers)
+}
+
+/// The first joining choice and its total: every set of rows is tried.
+pub fn first_choice(hall: &Hall) -> (Vec<u32>, u64) {
+    let cuts = cuts(hall);
+    let joining = (0u64..1 << hall.rows.len()).filter(|choice| cuts.iter().all(|cut| cut & choice != 0));
+    let (total, _, numbers) =
+        joining.map(|choice| rank(hall, choice)).min().expect("all rows join a hall in one piece");
+    (numbers, total)
+}
+
+/// The same for up to 64 rows: every choice is tried that meets unmet cuts one after the other and is not yet later in
+/// rank than one already found. The first choice is among them, since it can spare no row.
+pub fn first_choice_by_branching(hall: &Hall) -> (Vec<u32>, u64) {
+    let mut cuts = cuts(hall);
+    cuts.sort_by_key(|cut| cut.count_ones());
+    let mut first = rank(hall, (0..hall.rows.len()).map(|i| 1 << i).sum());
+    branch(hall, &cuts, 0, 0, &mut first);
+    (first.2, first.0)
+}
+
+fn branch(hall: &Hall, cuts: &[u64], chosen: u64, barred: u64, first: &mut Rank) {
+    let so_far = rank(hall, chosen);
+    if (so_far.0, so_far.1) > (first.0, first.1) {
+        return;
+    }
+    let Some(unmet) = cuts.iter().find(|&&cut| cut & chosen == 0) else {
+        if so_far < *first {
+            *first = so_far;
+        }
+        return;
+    };
+    let mut barred = barred;
+    for i in (0..hall.rows.len()).filter(|i| unmet >> i & 1 == 1) {
+        if barred >> i & 1 == 0 {
+            branch(hall, cuts, chosen | 1 << i, barred, first);
+            barred |= 1 << i;
+        }
+    }
+}

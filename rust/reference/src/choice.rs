@@ -1,0 +1,86 @@
+//! A choice of rows and the arcs it gives: rows forward and chosen rows backward.
+
+use crate::hall::{Hall, Refusal};
+use crate::sets::{holds, reached, reached_short_of, Arcs};
+
+pub struct Choice<'h> {
+    pub hall: &'h Hall,
+    chosen: [bool; 256],
+    pub arcs: Arcs,
+    /// How many chosen rows run from the second junction to the first.
+    backward: [[u16; 64]; 64],
+}
+
+impl<'h> Choice<'h> {
+    pub fn none(hall: &'h Hall) -> Choice<'h> {
+        Choice { hall, chosen: [false; 256], arcs: hall.forward, backward: [[0; 64]; 64] }
+    }
+
+    /// Refusal 10 for numbers that do not ascend or stand for no row.
+    pub fn read(hall: &'h Hall, numbers: &[u32]) -> Result<Choice<'h>, Refusal> {
+        let mut choice = Choice::none(hall);
+        let mut least = 1;
+        for &number in numbers {
+            if (number as usize) < least || number as usize > hall.rows.len() {
+                return Err(Refusal::new(10));
+            }
+            least = number as usize + 1;
+            choice.open(number as usize - 1);
+        }
+        Ok(choice)
+    }
+
+    /// All rows, then without each in turn, dearest first, that the rest can spare.
+    pub fn thinned(hall: &'h Hall) -> Choice<'h> {
+        let mut choice = Choice::none(hall);
+        (0..hall.rows.len()).for_each(|i| choice.open(i));
+        let mut dearest_first: Vec<usize> = (0..hall.rows.len()).rev().collect();
+        dearest_first.sort_by_key(|&i| std::cmp::Reverse(hall.rows[i].price));
+        for i in dearest_first {
+            choice.close(i);
+            let row = hall.rows[i];
+            if reached_short_of(&choice.arcs, row.head, row.tail).is_some() {
+                choice.open(i);
+            }
+        }
+        choice
+    }
+
+    pub fn has(&self, i: usize) -> bool {
+        self.chosen[i]
+    }
+
+    pub fn rows(&self) -> impl Iterator<Item = usize> + '_ {
+        (0..self.hall.rows.len()).filter(|&i| self.chosen[i])
+    }
+
+    pub fn open(&mut self, i: usize) {
+        if !self.chosen[i] {
+            self.chosen[i] = true;
+            let row = self.hall.rows[i];
+            self.backward[row.head][row.tail] += 1;
+            self.arcs[row.head] |= 1 << row.tail;
+        }
+    }
+
+    pub fn close(&mut self, i: usize) {
+        if self.chosen[i] {
+            self.chosen[i] = false;
+            let row = self.hall.rows[i];
+            self.backward[row.head][row.tail] -= 1;
+            if self.backward[row.head][row.tail] == 0 && !holds(self.hall.forward[row.head], row.tail) {
+                self.arcs[row.head] &= !(1 << row.tail);
+            }
+        }
+    }
+
+    /// Whether the arc is there by one chosen row alone.
+    pub fn is_frail(&self, from: usize, to: usize) -> bool {
+        self.backward[from][to] == 1 && !holds(self.hall.forward[from], to)
+    }
+
+    /// The set reached from the lowest junction that does not reach all.
+    pub fn missed(&self) -> Option<u64> {
+        (0..self.hall.n).map(|j| reached(&self.arcs, 1 << j)).find(|&set| set != self.hall.all())
+    }
+}

@@ -1,0 +1,48 @@
+//! Sets of junctions in one word, and what is reached over an adjacency.
+
+/// For each junction the set of junctions its arcs lead to.
+pub type Arcs = [u64; 64];
+
+pub fn full(n: usize) -> u64 {
+    u64::MAX >> (64 - n)
+}
+
+pub fn holds(set: u64, junction: usize) -> bool {
+    set >> junction & 1 == 1
+}
+
+/// The members of a set, ascending.
+pub fn members(mut set: u64) -> impl Iterator<Item = usize> {
+    std::iter::from_fn(move || {
+        if set == 0 {
+            return None;
+        }
+        let lowest = set.trailing_zeros() as usize;
+        set &= set - 1;
+        Some(lowest)
+    })
+}
+
+fn next_layer(arcs: &Arcs, layer: u64) -> u64 {
+    members(layer).fold(0, |next, junction| next | arcs[junction])
+}
+
+/// The least set that holds `start` and that no arc leaves.
+pub fn reached(arcs: &Arcs, start: u64) -> u64 {
+    let (mut seen, mut layer) = (start, start);
+    while layer != 0 {
+        layer = next_layer(arcs, layer) & !seen;
+        seen |= layer;
+    }
+    seen
+}
+
+/// The set reached from `start`, or `None` as soon as it holds `target`.
+pub fn reached_short_of(arcs: &Arcs, start: usize, target: usize) -> Option<u64> {
+    let (mut seen, mut layer) = (1 << start, 1 << start);
+    while layer != 0 && !holds(seen, target) {
+        layer = next_layer(arcs, layer) & !seen;
+        seen |= layer;
+    }
+    (!holds(seen, target)).then_some(seen)
+}
