@@ -2,6 +2,7 @@
 //! the planners take turns, so that what else the machine does meets them alike.
 
 mod calls;
+mod growth;
 mod table;
 
 use calls::{Case, CALLS};
@@ -41,6 +42,7 @@ fn main() {
                 table.line(kind.name(), n, &cases, &mut lent);
             }
         }
-        table.end();
+        table.growth();
+        table.end(SIZES[SIZES.len() - 1]);
     }
 }

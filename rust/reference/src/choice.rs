@@ -7,13 +7,15 @@ pub struct Choice<'h> {
     pub hall: &'h Hall,
     chosen: [bool; 256],
     pub arcs: Arcs,
+    /// The arcs that are there without any one chosen row.
+    pub solid: Arcs,
     /// How many chosen rows run from the second junction to the first.
     backward: [[u16; 64]; 64],
 }
 
 impl<'h> Choice<'h> {
     pub fn none(hall: &'h Hall) -> Choice<'h> {
-        Choice { hall, chosen: [false; 256], arcs: hall.forward, backward: [[0; 64]; 64] }
+        Choice { hall, chosen: [false; 256], arcs: hall.forward, solid: hall.forward, backward: [[0; 64]; 64] }
     }
 
     /// Refusal 10 for numbers that do not ascend or stand for no row.
@@ -60,6 +62,9 @@ impl<'h> Choice<'h> {
             let row = self.hall.rows[i];
             self.backward[row.head][row.tail] += 1;
             self.arcs[row.head] |= 1 << row.tail;
+            if self.backward[row.head][row.tail] > 1 {
+                self.solid[row.head] |= 1 << row.tail;
+            }
         }
     }
 
@@ -68,15 +73,14 @@ impl<'h> Choice<'h> {
             self.chosen[i] = false;
             let row = self.hall.rows[i];
             self.backward[row.head][row.tail] -= 1;
-            if self.backward[row.head][row.tail] == 0 && !holds(self.hall.forward[row.head], row.tail) {
-                self.arcs[row.head] &= !(1 << row.tail);
+            if !holds(self.hall.forward[row.head], row.tail) {
+                match self.backward[row.head][row.tail] {
+                    0 => self.arcs[row.head] &= !(1 << row.tail),
+                    1 => self.solid[row.head] &= !(1 << row.tail),
+                    _ => {}
+                }
             }
         }
-    }
-
-    /// Whether the arc is there by one chosen row alone.
-    pub fn is_frail(&self, from: usize, to: usize) -> bool {
-        self.backward[from][to] == 1 && !holds(self.hall.forward[from], to)
     }
 
     /// The set reached from the lowest junction that does not reach all.

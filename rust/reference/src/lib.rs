@@ -53,7 +53,7 @@ pub fn tight(file: &[u8], choice: &[u32], junction: u32) -> Result<Finding, Refu
     }
     Ok(match choice.missed() {
         Some(shore) => Finding::Misses(shore),
-        None => Finding::Around(tight::neighbourhood(&choice, junction as usize - 1)),
+        None => Finding::Around(tight::neighbourhood(&choice, &[0; 64], junction as usize - 1)),
     })
 }
 

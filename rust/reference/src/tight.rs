@@ -1,38 +1,66 @@
-//! Tight neighbourhoods of a joining choice, by leaving out one chosen row at a time.
+//! Tight neighbourhoods of a joining choice: what a junction reaches even without any one chosen row, as a set that grows.
 
 use crate::choice::Choice;
-use crate::sets::{holds, members, reached_short_of};
+use crate::sets::{members, Arcs};
 
-/// What `v` reaches without any one chosen row. Only rows whose way back is an arc of v's own search tree matter, and of
-/// these only the ones whose tail is not cut off by another row already.
-pub fn neighbourhood(choice: &Choice, v: usize) -> u64 {
-    let mut arcs = choice.arcs;
-    let mut around = choice.hall.all();
-    let (mut seen, mut layer): (u64, u64) = (1 << v, 1 << v);
-    while layer != 0 {
-        let mut next = 0;
-        for from in members(layer) {
-            let found = choice.arcs[from] & !seen;
-            seen |= found;
-            next |= found;
-            for to in members(found) {
-                if choice.is_frail(from, to) && holds(around, to) {
-                    arcs[from] &= !(1 << to);
-                    if let Some(set) = reached_short_of(&arcs, v, to) {
-                        around &= set;
-                    }
-                    arcs[from] |= 1 << to;
-                }
-            }
+/// A part of a neighbourhood, and the junctions that arcs from it lead to.
+#[derive(Default)]
+struct Grown {
+    set: u64,
+    once: u64,
+}
+
+impl Grown {
+    /// Puts in more junctions, and with them what solid arcs, second arcs and known neighbourhoods add.
+    fn grow(&mut self, choice: &Choice, known: &Arcs, more: u64) {
+        self.set |= more;
+        let mut todo = more;
+        while todo != 0 {
+            let x = todo.trailing_zeros() as usize;
+            let next = choice.arcs[x];
+            let sure = next & (choice.solid[x] | self.once) | known[x];
+            todo = todo & (todo - 1) | sure & !self.set;
+            self.set |= sure;
+            self.once |= next;
         }
-        layer = next;
     }
-    around
+
+    /// Junctions in which searches from two heads outside the set meet; 0 where all of these searches keep apart.
+    fn meeting(&self, arcs: &Arcs) -> u64 {
+        let mut other = 0;
+        for head in members(self.once & !self.set) {
+            let mut todo = 1 << head;
+            let mut seen = self.set | todo;
+            let mut met = todo & other;
+            while todo != 0 && met == 0 {
+                let found = arcs[todo.trailing_zeros() as usize];
+                todo = todo & (todo - 1) | found & !seen;
+                seen |= found;
+                met = found & other;
+            }
+            if met != 0 {
+                return met;
+            }
+            other |= seen & !self.set;
+        }
+        0
+    }
+}
+
+/// The neighbourhood of `v`, where `known` has the neighbourhoods of some junctions and 0 for the others.
+pub fn neighbourhood(choice: &Choice, known: &Arcs, v: usize) -> u64 {
+    let mut grown = Grown::default();
+    let mut more = 1 << v;
+    while more != 0 {
+        grown.grow(choice, known, more);
+        more = grown.meeting(&choice.arcs);
+    }
+    grown.set
 }
 
 /// Neighbourhoods as they are asked for, kept until the choice changes.
 pub struct Neighbourhoods {
-    known: [u64; 64],
+    known: Arcs,
 }
 
 impl Neighbourhoods {
@@ -43,7 +71,7 @@ impl Neighbourhoods {
     /// A neighbourhood holds its own junction, so 0 stands for one not yet asked for.
     pub fn of(&mut self, choice: &Choice, v: usize) -> u64 {
         if self.known[v] == 0 {
-            self.known[v] = neighbourhood(choice, v);
+            self.known[v] = neighbourhood(choice, &self.known, v);
         }
         self.known[v]
     }
