@@ -1,7 +1,11 @@
 pub mod Cut
+pub mod Reached
 pub mod Dropped
-pub mod Beside
 pub mod Around
-pub mod Turns
 pub mod Firming
+pub mod Expanding
+pub mod Sure
+pub mod Searches
+pub mod Meetings
+pub mod Meets
 pub mod Each

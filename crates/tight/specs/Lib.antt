@@ -1,4 +1,4 @@
 pub mod Solid
 pub mod Robust
-pub mod Turns
+pub mod Growth
 pub mod Firming

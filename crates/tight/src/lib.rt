@@ -1,16 +1,13 @@
 // Tight neighbourhoods of a joining choice: what a junction reaches even without any one frail arc.
-use junctions::Junctions;
+use crate::growth::neighbourhood;
 ghost use mathlib.Core.Path.{_≡_};
-ghost use mathlib.Core.Bool.{_&&_, not};
-ghost use Prim.Native.Nat.{ℕ, _≤_, _<_};
-ghost use Rattle.junctions.specs.Sets.{holds, Within};
+ghost use Prim.Native.Nat.{_≤_};
 ghost use Rattle.hall.specs.Hall.{Hall};
 ghost use Rattle.dicuts.specs.Shores.{around, Ranged, once, Joining};
 ghost use Rattle.columns.specs.Columns.{Ends, Columns, Neighbourhoods, flagged};
-ghost use Rattle.digraph.specs.Adjacency.{out-of};
 ghost use Rattle.tight.specs.Solid.{Firm};
-ghost use Rattle.tight.specs.Robust.{RobustSet};
-ghost use Rattle.tight.specs.Turns.{Resumed, Beside, Left};
+
+pub mod growth;
 
 // For each junction the junctions that solid arcs lead to: where a row runs, or a second flagged row runs the other way.
 pub fn solid_arcs<'a>(
@@ -39,76 +36,6 @@ pub fn solid_arcs<'a>(
     firm
 }
 
-// What a search reaches in the end, from what it has reached and has to do.
-pub fn resume(arcs: &[u64; 64], reached: u64, todo: u64) -> u64
-    requires { ⌜ Within todo reached ⌝ }
-    ensures { λ r. ⌜ Resumed (out-of (now (arcs .entry))) reached todo r ⌝ }
-{
-    let mut seen = reached;
-    let mut rest = todo;
-    while rest != 0 {
-        let next = (u64::trailing_zeros(rest) as usize) + 1;
-        let found = digraph::arcs(arcs, next);
-        rest = (rest & (rest - 1)) | (found ^ (found & seen));
-        seen = seen | found;
-    }
-    seen
-}
-
-// What is left of the set after the search is tried to its end without each of the heads among the fresh junctions.
-pub fn still_reached(
-    arcs: &[u64; 64],
-    reached: u64,
-    todo: u64,
-    fresh: u64,
-    heads: u64,
-    set: u64,
-) -> u64
-    requires { ⌜ Within todo reached ⌝ }
-    ensures { λ r. ⌜ Left (Beside (out-of (now (arcs .entry))) reached todo fresh) heads set r ⌝ }
-{
-    let mut left = set;
-    let mut rest = heads;
-    while rest != 0 {
-        let place = u64::trailing_zeros(rest) as usize;
-        let others = fresh ^ (fresh & (1 << place));
-        let kept = resume(arcs, reached | others, todo | others);
-        left = left & kept;
-        rest = rest & (rest - 1);
-    }
-    left
-}
-
-// The fresh junctions whose arc may matter: those that are not solid, and none where the junction they start from is lost.
-fn frail_heads(fresh: u64, solid: u64, near: bool) -> u64
-    ensures { λ r. ⌜ ((y : ℕ) → holds r y ≡ (near && (holds fresh y && not (holds solid y)))) ⌝ }
-{
-    if near { fresh ^ (fresh & solid) } else { 0 }
-}
-
-// The junctions that v reaches even without any one arc that is not solid.
-pub fn neighbourhood<'a>(arcs: &'a [u64; 64], solid: &'a [u64; 64], v: usize) -> u64
-    requires { ⌜ (1 ≤ v) × (v ≤ 64) ⌝ }
-    ensures { λ r. ⌜ RobustSet (out-of (now (arcs .entry))) (out-of (now (solid .entry))) v r ⌝ }
-{
-    let mut around = Junctions::full(64).0;
-    let mut reached: u64 = 1 << (v - 1);
-    let mut todo = reached;
-    while todo != 0 {
-        let x = (u64::trailing_zeros(todo) as usize) + 1;
-        let rest = todo & (todo - 1);
-        let found = digraph::arcs(arcs, x);
-        let fresh = found ^ (found & reached);
-        let near = Junctions(around).holds(x);
-        let heads = frail_heads(fresh, digraph::arcs(solid, x), near);
-        let left = still_reached(arcs, reached, rest, fresh, heads, around);
-        around = left;
-        todo = rest | fresh;
-        reached = reached | found;
-    }
-    around & reached
-}
-
 // The tight neighbourhood of one junction, for flagged rows that join the hall.
 pub fn neighbourhood_of<'a>(
     n: usize,
@@ -123,10 +50,12 @@ pub fn neighbourhood_of<'a>(
 {
     let arcs = adjacency::of_rows(n, m, tails, heads, flags);
     let solid = solid_arcs(n, m, tails, heads, flags);
-    neighbourhood(&arcs, &solid, v)
+    let known = [0u64; 64];
+    neighbourhood(&arcs, &solid, &known, v)
 }
 
-// The tight neighbourhood of each junction, for flagged rows that join the hall.
+// The tight neighbourhood of each junction, for flagged rows that join the hall: the last junction first, since rows tend to
+// lead to later junctions, whose neighbourhoods are known by then.
 pub fn neighbourhoods<'a>(
     n: usize,
     m: usize,
@@ -140,11 +69,11 @@ pub fn neighbourhoods<'a>(
     let arcs = adjacency::of_rows(n, m, tails, heads, flags);
     let solid = solid_arcs(n, m, tails, heads, flags);
     let mut sets = [0u64; 64];
-    let mut k: usize = 0;
-    while k < n {
-        let set = neighbourhood(&arcs, &solid, k + 1);
-        sets[k] = set;
-        k += 1;
+    let mut k: usize = n;
+    while 0 < k {
+        let set = neighbourhood(&arcs, &solid, &sets, k);
+        sets[k - 1] = set;
+        k -= 1;
     }
     sets
 }

@@ -1,7 +1,8 @@
 -- `tight::neighbourhood_of` meets its contract. Assumes nothing.
 use native.Mathlib.Omega.{arith}
+use lib.ListN.{replicate}
 use Rattle.columns.specs.Columns.{flagged}
-use Rattle.tight.proofs.Each.{robust-neighbourhood}
+use Rattle.tight.proofs.Each.{found-none, found-known, robust-neighbourhood}
 use borrow.Author.Needs.{needs}
 use Rattle.tight.proofs.neighbourhood_of.Statement.{statement}
 use Rattle.tight.proofs.neighbourhood_of.Tie as tie
@@ -16,9 +17,10 @@ neighbourhood-requires : tie.Need-neighbourhood-requires
 neighbourhood-requires c κs = search needs
 
 returns : tie.Need-returns
-returns c = let s = c .before .before .before .before .before in let a = s .args in let arcs = c .before .before .before .before .of-rows in let solid = c .before .before .before .solid-arcs in λ h cols ranged joins.
+returns c = let s = c .before .before .before .before .before .before in let a = s .args in let arcs = c .before .before .before .before .before .of-rows in let solid = c .before .before .before .before .solid-arcs in λ h cols ranged joins.
     robust-neighbourhood h ranged (flagged (a .flags .now)) joins (omega (arith, cols .junctions, s .pre .0 .size)) (arcs .result) (solid .result) (arcs .ensures h cols) (solid .ensures h cols) (a .v) (s .pre .1)
-    (omega (arith, cols .junctions, s .pre .2)) (c .neighbourhood .result) (c .neighbourhood .ensures)
+    (omega (arith, cols .junctions, s .pre .2)) (c .neighbourhood .result)
+    (c .neighbourhood .ensures (found-known (arcs .result) (solid .result) (replicate 64 0) (a .n) (a .n) (found-none (arcs .result) (solid .result) (a .n) (s .pre .0 .size))))
 
 pub neighbourhood-of-spec : {M : Type 1} → statement M
 neighbourhood-of-spec =

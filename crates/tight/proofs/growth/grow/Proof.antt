@@ -1,0 +1,88 @@
+-- `tight::growth::grow` meets its contract: it expands one junction a turn, and the set stays right. Assumes nothing.
+use mathlib.Core.Path.{_≡_}
+use Prim.Native.Nat.{ℕ, _+_, _^_, _<_}
+use native.Mathlib.Omega.{arith}
+use lib.Bits.{bitOr}
+use lib.Count.{trailingZeros, trailing-le}
+use Rattle.junctions.specs.Sets.{Within}
+use Rattle.junctions.proofs.Bits.{trailing-lt}
+use Rattle.junctions.proofs.Sets.{lowest-is}
+use Rattle.digraph.specs.Adjacency.{out-of}
+use Rattle.digraph.specs.Search.{unexpanded}
+use Rattle.tight.specs.Growth.{Known, Growing}
+use Rattle.tight.proofs.Sure.{sure-of, growing-step, growing-fits, within-more, more-within}
+use Rattle.tight.proofs.Expanding.{pending-less, pending-within}
+use borrow.Author.Needs.{needs}
+use Rattle.tight.proofs.growth.grow.Statement.{statement}
+use Rattle.tight.proofs.growth.grow.Tie as tie
+
+abbrev Inv-loop : tie.InvT-loop
+Inv-loop arcs solid known set once more grown₀ todo₀ found₀ grown todo found =
+    (todo < 2 ^ 64) × Within todo grown × Within (bitOr set more) grown ×
+    ((v : ℕ) → Known (out-of arcs) (out-of solid) (out-of known) → Growing (out-of arcs) (out-of solid) v (bitOr set more) more once →
+    Growing (out-of arcs) (out-of solid) v grown todo found)
+
+abbrev μ-loop : tie.MeasureT-loop
+μ-loop arcs solid known set once more grown₀ todo₀ found₀ grown todo found = unexpanded 64 grown todo
+
+loop-holds : tie.Need-loop-holds Inv-loop μ-loop
+unfolding Within
+loop-holds c = let a = c .args in (omega arith, more-within (a .set) (a .more), λ j l t. t, λ v known g. g)
+
+cast-x : tie.Need-cast-x Inv-loop μ-loop
+cast-x c = record { fits = omega (arith, trailing-le 64 (c .before .loop .todo)) }
+
+add-x : tie.Need-add-x Inv-loop μ-loop
+add-x c = record { fits = omega (arith, trailing-le 64 (c .before .loop .todo)) }
+
+arcs-requires : tie.Need-arcs-requires Inv-loop μ-loop
+arcs-requires c κs = (omega arith, omega (arith, trailing-lt 64 (c .before .loop .todo) (omega arith) (c .before .loop .inv .0)))
+
+arcs-requires-2 : tie.Need-arcs-requires-2 Inv-loop μ-loop
+arcs-requires-2 c κs = (omega arith, omega (arith, trailing-lt 64 (c .before .before .loop .todo) (omega arith) (c .before .before .loop .inv .0)))
+
+arcs-requires-3 : tie.Need-arcs-requires-3 Inv-loop μ-loop
+arcs-requires-3 c κs =
+    (omega arith, omega (arith, trailing-lt 64 (c .before .before .before .loop .todo) (omega arith) (c .before .before .before .loop .inv .0)))
+
+sub-todo : tie.Need-sub-todo Inv-loop μ-loop
+sub-todo c = search needs
+
+loop-less : tie.Need-loop-less Inv-loop μ-loop
+loop-less c = let l = c .before .before .before .before .loop in
+    pending-less (l .grown) (l .todo) (sure-of (c .before .before .arcs .result) (c .before .arcs2 .result) (l .found) (c .arcs3 .result)) (omega arith)
+    (l .inv .0) (l .inv .1)
+
+loop-again : tie.Need-loop-again Inv-loop μ-loop
+loop-again c = let l = c .before .before .before .before .loop in let a = c .before .before .before .before .before .args in
+    let next = c .before .before .arcs in let strong = c .before .arcs2 in let near = c .arcs3 in
+    let sure = sure-of (next .result) (strong .result) (l .found) (near .result) in
+    let low = lowest-is (l .todo) (omega arith) (l .inv .0) in (
+      growing-fits (l .grown) (l .todo) (l .found) (next .result) (strong .result) (near .result) (l .inv .0) (omega (arith, next .ok)) (omega (arith, near .ok)),
+      pending-within (l .grown) (l .todo) sure (omega arith) (l .inv .0) (l .inv .1),
+      within-more (bitOr (a .set) (a .more)) (l .grown) sure (l .inv .2),
+      λ v known g.
+          growing-step (out-of (a .arcs .now)) (out-of (a .solid .now)) v (l .grown) (l .todo) (l .found) (next .result) (strong .result) (near .result)
+          (omega arith) (l .inv .0) (next .ensures) (strong .ensures)
+          (rw (near .ensures) (known (trailingZeros 64 (l .todo) + 1) (low .from-one) (low .to-last))) (l .inv .3 v known g),
+    )
+
+returns : tie.Need-returns Inv-loop μ-loop
+returns c = let l = c .before .loop in let done : l .todo ≡ 0 = omega arith in (l .inv .2, λ v known g. rw done at (l .inv .3 v known g))
+
+pub grow-spec : {M : Type 1} → statement M
+grow-spec =
+    tie.close
+    (tie.spec
+    Inv-loop
+    μ-loop
+    loop-holds
+    cast-x
+    add-x
+    arcs-requires
+    arcs-requires-2
+    arcs-requires-3
+    sub-todo
+    loop-less
+    loop-again
+    returns)

@@ -1,0 +1,92 @@
+-- `tight::growth::neighbourhood` meets its contract: the set grows by what its searches meet in, until they keep apart. Assumes nothing.
+use mathlib.Core.Path.{_≡_}
+use mathlib.Core.Bool.{true, false}
+use Prim.Native.Nat.{ℕ, _-_, _^_, _≤_, _<_}
+use native.Mathlib.Omega.{arith}
+use lib.Bits.{bitOr, or-zero-r}
+use lib.Pow.{pow-pos}
+use Rattle.junctions.specs.Sets.{holds}
+use Rattle.junctions.proofs.Bits.{one-shl}
+use Rattle.junctions.proofs.Sets.{none-holds}
+use Rattle.digraph.specs.Adjacency.{out-of}
+use Rattle.tight.specs.Growth.{Known, Growing, Parted}
+use Rattle.tight.proofs.Meetings.{less, less-r}
+use Rattle.tight.proofs.Meets.{growing-start, growing-meeting, grown-all, set-more}
+use borrow.Author.Needs.{needs}
+use Rattle.tight.proofs.growth.neighbourhood.Statement.{statement}
+use Rattle.tight.proofs.growth.neighbourhood.Tie as tie
+
+abbrev Inv-loop : tie.InvT-loop
+Inv-loop arcs solid known v set₀ once₀ met₀ set once met =
+    (set < 2 ^ 64) × ((y : ℕ) → 1 ≤ y → holds met y ≡ true → holds set y ≡ false)
+    × (Known (out-of arcs) (out-of solid) (out-of known) → Growing (out-of arcs) (out-of solid) v (bitOr set met) met once)
+    × (met ≡ 0 → (all : ℕ) × Parted (out-of arcs) set (less once set) all)
+
+abbrev μ-loop : tie.MeasureT-loop
+μ-loop arcs solid known v set₀ once₀ met₀ set once met = 2 ^ 64 - set
+
+-- src/growth.rt:109:30
+sub-met : tie.Need-sub-met Inv-loop μ-loop
+sub-met c = search needs
+
+-- src/growth.rt:109:24
+shl-met : tie.Need-shl-met Inv-loop μ-loop
+shl-met c = search needs
+
+-- src/growth.rt:110:5
+loop-holds : tie.Need-loop-holds Inv-loop μ-loop
+loop-holds c = let a = c .args in
+    rw (one-shl (a .v - 1) (omega arith)) (
+      omega arith,
+      λ y l t. none-holds y,
+      λ known. growing-start (out-of (a .arcs .now)) (out-of (a .solid .now)) (a .v) (c .pre .0),
+      λ e. absurd (omega (arith, pow-pos (a .v - 1))),
+    )
+
+-- src/growth.rt:111:13
+grow-requires : tie.Need-grow-requires Inv-loop μ-loop
+grow-requires c κs = search needs
+
+-- src/growth.rt:114:9
+meeting-requires : tie.Need-meeting-requires Inv-loop μ-loop
+meeting-requires c κs = let g = c .grow .result in λ y l t. less-r (g .once) (g .set) y t
+
+-- src/growth.rt:110:5
+loop-less : tie.Need-loop-less Inv-loop μ-loop
+loop-less c = let l = c .before .before .before .loop in let g = c .before .grow in
+    omega (arith, set-more (l .set) (l .met) (g .result .set) (omega arith) (l .inv .1) (g .ensures .0), g .ok)
+
+-- src/growth.rt:110:5
+loop-again : tie.Need-loop-again Inv-loop μ-loop
+loop-again c = let a = c .before .before .before .before .args in let l = c .before .before .before .loop in let g = c .before .grow in (
+  omega (arith, g .ok),
+  λ y k t. c .meeting .ensures .met y k t .0,
+  λ known.
+      growing-meeting (out-of (a .arcs .now)) (out-of (a .solid .now)) (a .v) (g .result .set) (g .result .once)
+      (g .ensures .1 (a .v) known (l .inv .2 known)) (c .meeting .result) (c .meeting .ensures),
+  c .meeting .ensures .none,
+)
+
+-- src/growth.rt:97:1
+returns : tie.Need-returns Inv-loop μ-loop
+returns c = let a = c .before .before .args in let p = c .before .before .pre in let l = c .before .loop in
+    let done : l .met ≡ 0 = c .loop-test .left in
+    let last = l .inv .3 done in
+    λ known.
+    grown-all (out-of (a .arcs .now)) (out-of (a .solid .now)) (a .v) (l .set) (l .once)
+    (rw (done, or-zero-r (l .set)) at (l .inv .2 known)) (p .0) (p .1) (l .inv .0) (last .0) (last .1)
+
+pub neighbourhood-spec : {M : Type 1} → statement M
+neighbourhood-spec =
+    tie.close
+    (tie.spec
+    Inv-loop
+    μ-loop
+    sub-met
+    shl-met
+    loop-holds
+    grow-requires
+    meeting-requires
+    loop-less
+    loop-again
+    returns)
