@@ -1,19 +1,22 @@
 -- The search for a junction that does not reach all, step by step, and that it finds what document 03's `missed` says. Assumes nothing.
 use mathlib.Core.Path.{_≡_, refl, sym, ap, _∙_, subst}
-use mathlib.Core.Bool.{Bool, true, false, cond}
+use mathlib.Core.Bool.{Bool, true}
 use mathlib.Core.List.{List}
-use mathlib.Core.Option.{Option, none, some}
+use mathlib.Core.Option.{some}
 use Prim.Native.Nat.{ℕ, zero, suc, _+_, _-_, _*_, _%_, _^_, _<_, _≤_}
 use native.Mathlib.Numerals.{add-one}
 use native.Mathlib.Omega.{arith}
+use lib.Bits.{bitAnd, and-le-r}
 use lib.Dec.{eqb}
-use lib.Pow.{pow-lt, pow-mono}
+use lib.Pow.{pow-lt, pow-pos}
 use borrow.Author.Tests.{eq-eqb, ne-eqb, eqb-true, eqb-false}
-use Rattle.laws.proofs.Booleans.{by-bool, cond-true, cond-false}
-use Rattle.junctions.specs.Sets.{full, holds}
+use Rattle.laws.proofs.Booleans.{by-bool, and-l}
+use Rattle.junctions.specs.Sets.{full, holds, Within}
 use Rattle.junctions.proofs.Bits.{one-shl}
-use Rattle.junctions.proofs.Sets.{gather-lt}
-use Rattle.digraph.specs.Reach.{Reach}
+use Rattle.junctions.proofs.Bounds.{junction-le}
+use Rattle.junctions.proofs.Sets.{and-holds, full-lt, gather-lt, some-junction, within-both, within-full}
+use Rattle.junctions.proofs.Single.{one-lt, one-within}
+use Rattle.digraph.specs.Reach.{Closed, Reach}
 use Rattle.digraph.specs.Adjacency.{out-of}
 use Rattle.digraph.specs.Closure.{closure}
 use Rattle.digraph.proofs.Closure.{closure-reach, closure-lt, reach-unique, reach-narrow, reach-narrow-lt}
@@ -26,7 +29,7 @@ use Rattle.adjacency.proofs.Arcs.{arcs-ext}
 use Rattle.joining.proofs.Reached.{reached-is, reached-lt}
 use Rattle.junctions.proofs.Members.{holds-some}
 use Rattle.joining.proofs.Joins.{reached-start}
-use Rattle.choice.specs.Short.{Inside, short-from, if-some}
+use Rattle.choice.specs.Short.{Inside, Until, short-from, if-some}
 
 module _ (all : ℕ) (f : ℕ → ℕ) (n : ℕ) where
   pub short-more : (j : ℕ) → j < n → f (suc j) ≡ all → short-from (n - j) (suc j) all f ≡ short-from (n - (j + 1)) (suc (j + 1)) all f
@@ -53,6 +56,41 @@ reach-is-closure n out j r small inside h e =
     rw q
     (reach-unique n out (2 ^ j) r (closure n out (2 ^ j)) (reach-narrow-lt n out (2 ^ j) r small few inside start) (closure-lt n out (2 ^ j) few)
     (reach-narrow n out (2 ^ j) r small few inside start) (closure-reach n out (2 ^ j) few inside))
+
+-- the junctions 1 to j reach all
+abbrev pub Known : (n : ℕ) (out : ℕ → ℕ) (j : ℕ) → Type 0
+Known n out j = (i : ℕ) → 1 ≤ i → i ≤ j → closure n out (2 ^ (i - 1)) ≡ full n
+
+pub known-more : (n : ℕ) (out : ℕ → ℕ) (j : ℕ) → Known n out j → closure n out (2 ^ (suc j - 1)) ≡ full n → Known n out (j + 1)
+known-more n out j known e i l m =
+    by-bool (eqb i (suc j)) (λ t. ap (λ (k : ℕ). closure n out (2 ^ (k - 1))) (eqb-true i (suc j) t) ∙ e) (λ t. known i l (omega (arith, eqb-false i (suc j) t)))
+
+module _ (n : ℕ) (out : ℕ → ℕ) (inside : Inside n out) where
+  -- what a junction that is met reaches, the start reaches too
+  closure-through : (start goal r y : ℕ) → start < 2 ^ n → Until out start goal r → 1 ≤ y → y ≤ n → holds r y ≡ true
+      → Within (closure n out (2 ^ (y - 1))) (closure n out start)
+  unfolding Inside Within Closed
+  closure-through start goal r y few u l m h =
+      let c = closure n out start in
+      let all = closure-reach n out start few inside in
+      let closed : Closed 64 out c = λ i p _ t. all .closed i p (junction-le n c i (closure-lt n out start few) t) t in
+      closure-reach n out (2 ^ (y - 1)) (one-lt n y l m) inside .least c (one-within c y l (u .least c (all .contains) closed y l h)) (all .closed)
+
+  -- a junction whose search meets one that reaches all reaches all
+  pub met-full : (j start r : ℕ) → j < n → start ≡ 2 ^ j → Known n out j → Until out start (start - 1) r → (bitAnd r (start - 1) ≡ 0 → ⊥)
+      → closure n out (2 ^ (suc j - 1)) ≡ full n
+  unfolding Within full
+  met-full j start r h e known u met =
+      let few : start < 2 ^ n = omega (arith, e, pow-lt {i = j} {j = n} h) in
+      let w = some-junction j (bitAnd r (start - 1)) (omega (arith, met)) (omega (arith, e, pow-pos j, and-le-r r (start - 1))) in
+      let y = w .0 in
+      let held : holds r y ≡ true = and-l (holds r y) (holds (start - 1) y) (sym (and-holds r (start - 1) y) ∙ w .3) in
+      let c = closure n out start in
+      let few-c = closure-lt n out start few in
+      let through = closure-through start (start - 1) r y few u (w .1) (omega (arith, w .2)) held in
+      let q : suc j - 1 ≡ j = omega arith in
+      rw (q, sym e) (within-both n c (full n) few-c (full-lt n) (within-full n c few-c)
+      (λ i p t. through i p (ap (λ (s : ℕ). holds s i) (known y (w .1) (w .2)) ∙ t)))
 
 -- what is found is what document 03 calls missed
 module _ (h : Hall) (rg : Ranged h) (c : List ℕ) (out : ℕ → ℕ) (same : (j : ℕ) → 1 ≤ j → j ≤ h .n → out j ≡ arcs h (λ i. member i c) j) where

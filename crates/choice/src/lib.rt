@@ -10,7 +10,7 @@ ghost use Rattle.digraph.specs.Closure.{closure};
 ghost use Rattle.hall.specs.Hall.{Hall, ascends-from, member, missed};
 ghost use Rattle.dicuts.specs.Shores.{Ranged};
 ghost use Rattle.columns.specs.Columns.{Ends, Columns, flagged};
-ghost use Rattle.choice.specs.Short.{Inside, short-from, if-some};
+ghost use Rattle.choice.specs.Short.{Inside, Until, short-from, if-some};
 use junctions::Junctions;
 
 // The numbers ascend strictly from 1 up to the limit.
@@ -49,7 +49,26 @@ pub fn flags(numbers: &[u32]) -> [bool; 256]
     chosen
 }
 
+// What a search from the start has reached when it first holds a junction of the goal, or when it ends.
+fn reach_until(adjacency: &[u64; 64], start: u64, goal: u64) -> u64
+    ensures { λ r. ⌜ Until (out-of (now (adjacency .entry))) start goal r ⌝ }
+{
+    let mut reached = start;
+    let mut todo = start;
+    while todo != 0 {
+        if reached & goal != 0 {
+            return reached;
+        }
+        let next = (u64::trailing_zeros(todo) as usize) + 1;
+        let found = digraph::arcs(adjacency, next);
+        todo = (todo & (todo - 1)) | (found ^ (found & reached));
+        reached = reached | found;
+    }
+    reached
+}
+
 // What the lowest of the junctions 1 to n that does not reach all reaches; 0 where each reaches all.
+// The junctions before one are known to reach all: a search that meets one of them need not go on.
 pub fn shortfall(adjacency: &[u64; 64], n: usize) -> u64
     requires { ⌜ (n ≤ 64) × Inside n (out-of (now adjacency)) ⌝ }
     ensures { λ r. ⌜ r ≡ short-from n 1 (full n) (λ (j : ℕ). closure n (out-of (now (adjacency .entry))) (2 ^ (j - 1))) ⌝ }
@@ -57,8 +76,10 @@ pub fn shortfall(adjacency: &[u64; 64], n: usize) -> u64
     let all = Junctions::full(n).0;
     let mut j: usize = 0;
     while j < n {
-        let reached = digraph::reach(adjacency, 1 << j);
-        if reached != all {
+        let here: u64 = 1 << j;
+        let known = here - 1;
+        let reached = reach_until(adjacency, here, known);
+        if reached & known == 0 && reached != all {
             return reached;
         }
         j += 1;

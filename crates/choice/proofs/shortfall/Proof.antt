@@ -1,13 +1,17 @@
--- `choice::shortfall` meets its contract: the junctions left decide what all decide. Assumes nothing.
+-- `choice::shortfall` meets its contract: the junctions left decide what all decide, and those before reach all. Assumes nothing.
 use mathlib.Core.List.{List}
-use mathlib.Core.Path.{_≡_, refl, _∙_, sym, ap}
-use Prim.Native.Nat.{ℕ, suc, _≤_, _-_, _+_, _^_}
+use mathlib.Core.Path.{_≡_, _∙_, sym, ap}
+use mathlib.Core.Logic.{⊎-elim}
+use Prim.Native.Nat.{ℕ, suc, _≤_, _-_, _^_}
 use native.Mathlib.Omega.{arith}
+use lib.Pow.{pow-pos}
+use borrow.Author.Tests.{eqb-true, eqb-false, not-true, not-false}
 use Rattle.junctions.specs.Sets.{full}
+use Rattle.junctions.proofs.Bits.{one-shl}
 use Rattle.digraph.specs.Adjacency.{out-of}
 use Rattle.digraph.specs.Closure.{closure}
 use Rattle.choice.specs.Short.{short-from}
-use Rattle.choice.proofs.Short.{short-more, short-stop, short-end, reach-is-closure}
+use Rattle.choice.proofs.Short.{Known, known-more, short-more, short-stop, short-end, reach-is-closure, met-full}
 use borrow.Author.Needs.{needs}
 use Rattle.choice.proofs.shortfall.Statement.{statement}
 use Rattle.choice.proofs.shortfall.Tie as tie
@@ -17,7 +21,7 @@ abbrev from-each : ℕ → List ℕ → ℕ → ℕ
 from-each n adjacency j = closure n (out-of adjacency) (2 ^ (j - 1))
 
 abbrev Inv-loop : tie.InvT-loop
-Inv-loop adjacency n all j₀ j = (j ≤ n) × (short-from (n - j) (suc j) (full n) (from-each n adjacency) ≡ short-from n 1 (full n) (from-each n adjacency))
+Inv-loop adjacency n all j₀ j = (j ≤ n) × (short-from (n - j) (suc j) (full n) (from-each n adjacency) ≡ short-from n 1 (full n) (from-each n adjacency)) × Known n (out-of adjacency) j
 
 abbrev μ-loop : tie.MeasureT-loop
 μ-loop adjacency n all j₀ j = n - j
@@ -26,18 +30,21 @@ full-requires : tie.Need-full-requires Inv-loop μ-loop
 full-requires c κs = search needs
 
 loop-holds : tie.Need-loop-holds Inv-loop μ-loop
-loop-holds c = let n = c .before .args .n in (omega arith, let e : n - 0 ≡ n = omega arith in ap (λ (k : ℕ). short-from k 1 (full n) (from-each n (c .before .args .adjacency .now))) e)
+loop-holds c = let n = c .before .args .n in (omega arith, let e : n - 0 ≡ n = omega arith in ap (λ (k : ℕ). short-from k 1 (full n) (from-each n (c .before .args .adjacency .now))) e, λ i l m. absurd (omega arith))
 
-shl-reach : tie.Need-shl-reach Inv-loop μ-loop
-shl-reach c = search needs
+shl-here : tie.Need-shl-here Inv-loop μ-loop
+shl-here c = search needs
 
-reach-requires : tie.Need-reach-requires Inv-loop μ-loop
-reach-requires c κs = search needs
+sub-known : tie.Need-sub-known Inv-loop μ-loop
+sub-known c = let j = c .before .loop .j in omega (arith, one-shl j (omega arith), pow-pos j)
+
+reach-until-requires : tie.Need-reach-until-requires Inv-loop μ-loop
+reach-until-requires c κs = search needs
 
 returns : tie.Need-returns Inv-loop μ-loop
-returns c = let l = c .before .before .before in let s = l .before .before in let f = from-each (s .args .n) (s .args .adjacency .now) in
-    let got = reach-is-closure (s .args .n) (out-of (s .args .adjacency .now)) (l .loop .j) (c .before .reach .result) (s .pre .0) (s .pre .1) (c .before .before .loop-test .taken) (c .before .reach .ensures) in
-    got ∙ sym (short-stop (full (s .args .n)) f (s .args .n) (l .loop .j) (c .before .before .loop-test .taken) (λ e. c .if1 .taken (got ∙ e ∙ sym (l .before .full .ensures)))) ∙ l .loop .inv .1
+returns c = let l = c .before .before .before .before in let s = l .before .before in let f = from-each (s .args .n) (s .args .adjacency .now) in let t = c .before .before .before .loop-test .taken in
+    let got = reach-is-closure (s .args .n) (out-of (s .args .adjacency .now)) (l .loop .j) (c .before .before .reach-until .result) (s .pre .0) (s .pre .1) t (c .before .before .reach-until .ensures .whole (c .before .if1 .taken)) in
+    got ∙ sym (short-stop (full (s .args .n)) f (s .args .n) (l .loop .j) t (λ e. eqb-false _ _ (not-true _ (c .if2 .taken)) (got ∙ e ∙ sym (l .before .full .ensures)))) ∙ l .loop .inv .1
 
 add-j : tie.Need-add-j Inv-loop μ-loop
 add-j c = search needs
@@ -46,9 +53,15 @@ loop-less : tie.Need-loop-less Inv-loop μ-loop
 loop-less c = search needs
 
 loop-again : tie.Need-loop-again Inv-loop μ-loop
-loop-again c = let l = c .before .before .before in let s = l .before .before in let f = from-each (s .args .n) (s .args .adjacency .now) in
-    let got = reach-is-closure (s .args .n) (out-of (s .args .adjacency .now)) (l .loop .j) (c .before .reach .result) (s .pre .0) (s .pre .1) (c .before .before .loop-test .taken) (c .before .reach .ensures) in
-    (omega arith, sym (short-more (full (s .args .n)) f (s .args .n) (l .loop .j) (c .before .before .loop-test .taken) (sym got ∙ c .if1 .left ∙ l .before .full .ensures)) ∙ l .loop .inv .1)
+loop-again c = let l = c .before .before .before in let s = l .before .before in let n = s .args .n in let out = out-of (s .args .adjacency .now) in let j = l .loop .j in
+    let t = c .before .before .loop-test .taken in
+    let got = c .before .reach-until in
+    let all-reached : from-each n (s .args .adjacency .now) (suc j) ≡ full n =
+    ⊎-elim
+    (λ e. sym (reach-is-closure n out j (got .result) (s .pre .0) (s .pre .1) t (got .ensures .whole (e .0 .taken))) ∙ eqb-true _ _ (not-false _ (e .1 .left)) ∙ l .before .full .ensures)
+    (λ e. met-full n out (s .pre .1) j _ (got .result) t (one-shl j (omega arith)) (l .loop .inv .2) (got .ensures) (e .left))
+    (c .if1 .came) in
+    (omega arith, sym (short-more (full n) (from-each n (s .args .adjacency .now)) n j t all-reached) ∙ l .loop .inv .1, known-more n out j (l .loop .inv .2) all-reached)
 
 returns-2 : tie.Need-returns-2 Inv-loop μ-loop
 returns-2 c = let l = c .before in let s = l .before .before in sym (short-end (full (s .args .n)) (from-each (s .args .n) (s .args .adjacency .now)) (s .args .n) (l .loop .j) (suc (l .loop .j)) (c .loop-test .left)) ∙ l .loop .inv .1
@@ -61,8 +74,9 @@ shortfall-spec =
     μ-loop
     full-requires
     loop-holds
-    shl-reach
-    reach-requires
+    shl-here
+    sub-known
+    reach-until-requires
     returns
     add-j
     loop-less
