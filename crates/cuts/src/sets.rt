@@ -45,21 +45,28 @@ pub fn upper_set(potential: &[u64; 64], n: usize, threshold: u64) -> u64
     set
 }
 
+// The junctions of 1 to n whose set holds junction a: a column of bits, with no branch.
+fn holders(around: &[u64; 64], n: usize, a: usize) -> u64
+    requires { ⌜ (n ≤ 64) × (1 ≤ a) × (a ≤ 64) ⌝ }
+    ensures { λ r. ⌜ r ≡ gather n (λ (b : ℕ). holds (out-of (now (around .entry)) b) a) ⌝ }
+{
+    let place = a - 1;
+    let mut set: u64 = 0;
+    let mut k: usize = 0;
+    while k < n {
+        set = set | (((around[k] >> place) % 2) << k);
+        k += 1;
+    }
+    set
+}
+
 // The mates of junction a.
 pub fn mates_of(around: &[u64; 64], n: usize, a: usize) -> u64
     requires { ⌜ (n ≤ 64) × (1 ≤ a) × (a ≤ 64) ⌝ }
     ensures { λ r. ⌜ r ≡ mates-by n (out-of (now (around .entry))) a ⌝ }
 {
-    let own = around[a - 1];
-    let mut set: u64 = 0;
-    let mut k: usize = 0;
-    while k < n {
-        let there = Junctions(own).holds(k + 1);
-        let back = Junctions(around[k]).holds(a);
-        set = extended(set, k, there | back);
-        k += 1;
-    }
-    set
+    let own = Junctions::full(n).0 & around[a - 1];
+    own | holders(around, n, a)
 }
 
 // The mates of each junction.

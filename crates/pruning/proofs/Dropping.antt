@@ -1,14 +1,14 @@
 -- The turns of the start: a row whose tail is reached from its head over arcs of the other rows may be dropped; and all rows join. Assumes nothing.
-use mathlib.Core.Bool.{Bool, true, false, _&&_, _||_, not}
+use mathlib.Core.Bool.{Bool, true, false, _&&_, not}
 use mathlib.Core.List.{List, [], _∷_}
 use mathlib.Core.Logic.{_⊎_, inl, inr, ⊎-elim}
 use mathlib.Core.Path.{_≡_, refl, sym, ap, subst, _∙_}
 use Prim.Native.Nat.{ℕ, zero, suc, _+_, _-_, _*_, _%_, _^_, _≤_, _<_}
 use native.Mathlib.Omega.{arith}
 use lib.Bits.{bitAnd, bitXor}
-use lib.Dec.{eqb, eqb·suc-suc}
-use lib.ListN.{length, getD, set, length-set}
-use lib.Seq.{getD-set-same, getD-set-other}
+use lib.Dec.{eqb}
+use lib.ListN.{length, getD, set}
+use lib.Seq.{getD-set-same, getD-set-other, set-set, set-getD}
 use borrow.Author.Tests.{eqb-true, eqb-false}
 use Rattle.laws.proofs.Booleans.{by-bool, clash, and-l, and-r, and-i, or-l, or-r, or-cases}
 use Rattle.laws.proofs.Finite.{any-found, any-intro}
@@ -52,6 +52,31 @@ set-false [] k = refl
 set-false (f ∷ fs) zero = refl
 set-false (f ∷ fs) (suc k) = set-false fs k
 
+-- more rows make more arcs
+arc-mono : (h : Hall) (E F : ℕ → Bool) → ((i : ℕ) → 1 ≤ i → i ≤ count h → E i ≡ true → F i ≡ true) → (x y : ℕ) → arc h E x y ≡ true → arc h F x y ≡ true
+unfolding arc
+arc-mono h E F more x y e =
+    let w = any-found (count h) _ e in
+    let i : ℕ = w .0 in
+    let forward : Bool = eqb (row h (suc i) .from) x && eqb (row h (suc i) .to) y in
+    let back : Bool = eqb (row h (suc i) .to) x && eqb (row h (suc i) .from) y in
+    any-intro (count h) _ i (w .1)
+    (⊎-elim (or-l forward (F (suc i) && back))
+    (λ p. or-r forward (F (suc i) && back) (and-i (F (suc i)) back (more (suc i) (omega arith) (omega (arith, w .1)) (and-l (E (suc i)) back p)) (and-r (E (suc i)) back p)))
+    (or-cases forward (E (suc i) && back) (w .2)))
+
+-- the junctions that arcs lead to
+module _ (h : Hall) (E : ℕ → Bool) (x y : ℕ) (l : 1 ≤ y) where
+  out-arc : holds (arcs h E x) y ≡ true → (y ≤ h .n) × (arc h E x y ≡ true)
+  unfolding arcs
+  out-arc e =
+      let high : y ≤ h .n = junction-le (h .n) (arcs h E x) y (gather-lt (h .n) (arc h E x)) e in
+      (high, sym (gather-holds (h .n) (arc h E x) y l high) ∙ e)
+
+  in-arcs : y ≤ h .n → arc h E x y ≡ true → holds (arcs h E x) y ≡ true
+  unfolding arcs
+  in-arcs u e = gather-holds (h .n) (arc h E x) y l u ∙ e
+
 -- the flags with one taken out are the rows without it
 module _ (fs : List Bool) (k : ℕ) where
   pub taken-out : (i : ℕ) → 1 ≤ i → flagged (set fs k false) i ≡ without (flagged fs) (suc k) i
@@ -84,7 +109,7 @@ module _ (fs : List Bool) (k : ℕ) where
     F = flagged fs
 
     abbrev G : ℕ → Bool
-    G = without F (suc k)
+    G = flagged (set fs k false)
 
     k-high : suc k ≤ count h
     k-high = omega (arith, cols .rows)
@@ -110,23 +135,13 @@ module _ (fs : List Bool) (k : ℕ) where
         (λ q.
         inl (any-intro (count h) _ i (w .1)
         (or-r forward (G (suc i) && back)
-        (and-i (G (suc i)) back (and-i (F (suc i)) (not (eqb (suc i) (suc k))) (and-l (F (suc i)) back p) (ap not q)) (and-r (F (suc i)) back p))))))
+        (and-i (G (suc i)) back (taken-out (suc i) (omega arith) ∙ and-i (F (suc i)) (not (eqb (suc i) (suc k))) (and-l (F (suc i)) back p) (ap not q)) (and-r (F (suc i)) back p))))))
         (or-cases forward (F (suc i) && back) (w .2))
-
-    out-arc : (E : ℕ → Bool) (x y : ℕ) → 1 ≤ y → holds (arcs h E x) y ≡ true → (y ≤ h .n) × (arc h E x y ≡ true)
-    unfolding arcs
-    out-arc E x y l e =
-        let high : y ≤ h .n = junction-le (h .n) (arcs h E x) y (gather-lt (h .n) (arc h E x)) e in
-        (high, sym (gather-holds (h .n) (arc h E x) y l high) ∙ e)
-
-    in-arcs : (E : ℕ → Bool) (x y : ℕ) → 1 ≤ y → y ≤ h .n → arc h E x y ≡ true → holds (arcs h E x) y ≡ true
-    unfolding arcs
-    in-arcs E x y l u e = gather-holds (h .n) (arc h E x) y l u ∙ e
 
     -- without the row's own arc, or with it where it is backed, the sets stay under the rows that are left
     pub under-drop :
         (sets : List ℕ) (p r : ℕ) → length sets ≡ 64 → p < 64 → suc p ≡ to → Under h F sets →
-        ((y : ℕ) → 1 ≤ y → holds r y ≡ true → (holds (getD sets p 0) y ≡ true) × (y ≡ from → Backed h F (suc k))) → Under h G (set sets p r)
+        ((y : ℕ) → 1 ≤ y → holds r y ≡ true → (holds (getD sets p 0) y ≡ true) × (y ≡ from → Backed h G (suc k))) → Under h G (set sets p r)
     unfolding Under Within Backed
     under-drop sets p r size small place under spare x l u y m e =
         by-bool (eqb x to)
@@ -135,42 +150,19 @@ module _ (fs : List Bool) (k : ℕ) where
         let here : x - 1 ≡ p = omega (arith, is-to, place) in
         let new : holds r y ≡ true = ap (λ (z : ℕ). holds z y) (sym (ap (λ (z : ℕ). getD (set sets p r) z 0) here ∙ getD-set-same sets p r 0 (omega (arith, size)))) ∙ e in
         let old : holds (at sets x) y ≡ true = ap (λ (z : ℕ). holds (getD sets z 0) y) here ∙ spare y m new .0 in
-        let known = out-arc F x y m (under x l u y m old) in
-        in-arcs G x y m (known .0)
+        let known = out-arc h F x y m (under x l u y m old) in
+        in-arcs h G x y m (known .0)
         (⊎-elim (λ a. a) (λ own. rw (own .0, own .1) (spare y m new .1 (own .1))) (arc-without x y (known .1))))
         (λ q.
         let off : x ≡ to → ⊥ = eqb-false x to q in
         let there : x - 1 ≡ p → ⊥ = λ s. off (omega (arith, place)) in
         let old : holds (at sets x) y ≡ true = ap (λ (z : ℕ). holds z y) (sym (getD-set-other sets p (x - 1) r 0 there)) ∙ e in
-        let known = out-arc F x y m (under x l u y m old) in
-        in-arcs G x y m (known .0) (⊎-elim (λ a. a) (λ own. absurd (off (own .0))) (arc-without x y (known .1))))
-
-    -- a row that is not dropped gets its arc back
-    pub under-back :
-        (sets : List ℕ) (p r : ℕ) → length sets ≡ 64 → p < 64 → Under h F sets → Under h F (set (set sets p r) p (getD sets p 0))
-    unfolding Under Within
-    under-back sets p r size small under x l u y m e =
-        by-bool (eqb (x - 1) p)
-        (λ q.
-        let here : x - 1 ≡ p = eqb-true (x - 1) p q in
-        let long : p < length (set sets p r) = omega (arith, length-set sets p r, size) in
-        under x l u y m
-        (ap (λ (z : ℕ). holds (getD sets z 0) y) here
-        ∙ ap (λ (z : ℕ). holds z y) (sym (ap (λ (z : ℕ). getD (set (set sets p r) p (getD sets p 0)) z 0) here ∙ getD-set-same (set sets p r) p (getD sets p 0) 0 long)) ∙ e))
-        (λ q.
-        let there : x - 1 ≡ p → ⊥ = eqb-false (x - 1) p q in
-        under x l u y m
-        (ap (λ (z : ℕ). holds z y)
-        (sym (getD-set-other (set sets p r) p (x - 1) (getD sets p 0) 0 there ∙ getD-set-other sets p (x - 1) r 0 there)) ∙ e))
-
-    pub under-taken : (sets : List ℕ) → Under h G sets → Under h (flagged (set fs k false)) sets
-    unfolding Under
-    under-taken sets under x l u =
-        subst (λ (z : ℕ). Within (at sets x) z) (sym (arcs-ext h (flagged (set fs k false)) G (λ i p q. taken-out i p) x)) (under x l u)
+        let known = out-arc h F x y m (under x l u y m old) in
+        in-arcs h G x y m (known .0) (⊎-elim (λ a. a) (λ own. absurd (off (own .0))) (arc-without x y (known .1))))
 
     -- what the row's head reaches without the row
     spared : ℕ
-    spared = closure (h .n) (arcs h G) (2 ^ (to - 1))
+    spared = closure (h .n) (arcs h (without F (suc k))) (2 ^ (to - 1))
 
     to-low : 1 ≤ to
     to-low = rg .to-low (suc k) (omega arith) k-high
@@ -180,32 +172,33 @@ module _ (fs : List Bool) (k : ℕ) where
 
     spared-is : Spared h F (suc k) to spared
     unfolding spared arcs
-    spared-is = closure-reach (h .n) (arcs h G) (2 ^ (to - 1)) (one-lt (h .n) to to-low to-high) (λ j l u. gather-lt (h .n) (arc h G j))
+    spared-is = closure-reach (h .n) (arcs h (without F (suc k))) (2 ^ (to - 1)) (one-lt (h .n) to to-low to-high) (λ j l u. gather-lt (h .n) (arc h (without F (suc k)) j))
 
     -- it is closed for sets under the rows that are left
     spared-closed : (sets : List ℕ) → Under h G sets → Closed 64 (out-of sets) spared
     unfolding Under Closed Within spared
     spared-closed sets under j l u e y m has =
-        let high : j ≤ h .n = junction-le (h .n) spared j (closure-lt (h .n) (arcs h G) (2 ^ (to - 1)) (one-lt (h .n) to to-low to-high)) e in
-        spared-is .closed j l high e y m (under j l high y m has)
+        let high : j ≤ h .n = junction-le (h .n) spared j (closure-lt (h .n) (arcs h (without F (suc k))) (2 ^ (to - 1)) (one-lt (h .n) to to-low to-high)) e in
+        spared-is .closed j l high e y m
+        (ap (λ (z : ℕ). holds z y) (sym (arcs-ext h G (without F (suc k)) (λ i p q. taken-out i p) j)) ∙ under j l high y m has)
 
     pub dropped-joins :
         (sets : List ℕ) → Under h G sets → ((t : ℕ) → holds t to ≡ true → Closed 64 (out-of sets) t → holds t from ≡ true) →
-        Joining h (once F) → Joining h (once (flagged (set fs k false)))
+        Joining h (once F) → Joining h (once G)
     unfolding without Within
     dropped-joins sets under leads joining =
         let back : holds spared from ≡ true = leads spared (spared-is .contains to to-low (one-self to to-low)) (spared-closed sets under) in
-        let rest : Joining h (once G) =
+        let rest : Joining h (once (without F (suc k))) =
         by-bool (F (suc k))
         (λ e.
         drop-joins h F (suc k) (record { low = omega arith; high = k-high; in-it = e }) spared to-low
         (rg .from-low (suc k) (omega arith) k-high) spared-is back joining)
         (λ e.
-        joining-mono h F G
+        joining-mono h F (without F (suc k))
         (λ i l u t.
         and-i (F i) (not (eqb i (suc k))) t
         (by-bool (eqb i (suc k)) (λ q. clash t (ap F (eqb-true i (suc k) q) ∙ e)) (λ q. ap not q))) joining) in
-        joining-mono h G (flagged (set fs k false)) (λ i l u t. taken-out i l ∙ t) rest
+        joining-mono h (without F (suc k)) G (λ i l u t. taken-out i l ∙ t) rest
 
 module _ (fs : List Bool) (k : ℕ) (h : Hall) (n m : ℕ) (ts hs : List ℕ) (cols : Columns h n m ts hs) (less : k < m) where
   row-from : (i : ℕ) → i < m → getD ts i 0 ≡ row h (suc i) .from
@@ -214,16 +207,32 @@ module _ (fs : List Bool) (k : ℕ) (h : Hall) (n m : ℕ) (ts hs : List ℕ) (c
   row-to : (i : ℕ) → i < m → getD hs i 0 ≡ row h (suc i) .to
   row-to i l = let place : suc i - 1 ≡ i = omega arith in rw place at (cols .head (suc i) (omega arith) l)
 
-  -- another row that makes the arc
+  -- one of the rows makes the arc
   pub backed-by :
       (i : ℕ) → i < m →
-      ((eqb (getD ts i 0) (getD hs k 0) && eqb (getD hs i 0) (getD ts k 0)) || ((getD fs i false && not (eqb i k)) && (eqb (getD hs i 0) (getD hs k 0) && eqb (getD ts i 0) (getD ts k 0)))) ≡ true →
+      (getD fs i false && (eqb (getD hs i 0) (getD hs k 0) && eqb (getD ts i 0) (getD ts k 0))) ≡ true →
       Backed h (flagged fs) (suc k)
-  unfolding Backed arc without
+  unfolding Backed arc
   backed-by i l e =
       let place : suc i - 1 ≡ i = omega arith in
       any-intro (count h) _ i (omega (arith, cols .rows))
-      (rw (place, eqb·suc-suc i k, sym (row-from i l), sym (row-to i l), sym (row-from k less), sym (row-to k less)) e)
+      (or-r (eqb (row h (suc i) .from) (row h (suc k) .to) && eqb (row h (suc i) .to) (row h (suc k) .from)) _
+      (rw (place, sym (row-from i l), sym (row-to i l), sym (row-from k less), sym (row-to k less)) e))
+
+  -- a row runs from the head to the tail: an arc that is there with no row flagged
+  pub backed-forward :
+      Ranged h → (flags : List Bool) → ((i : ℕ) → i < m → getD flags i false ≡ false) → (sets : List ℕ) → Arcs h (flagged flags) sets →
+      (p q : ℕ) → suc p ≡ getD hs k 0 → suc q ≡ getD ts k 0 → holds (getD sets p 0) (suc q) ≡ true → Backed h (flagged fs) (suc k)
+  unfolding Backed Arcs
+  backed-forward rg flags none sets are p q head tail has =
+      let place : suc p - 1 ≡ p = omega arith in
+      let to : suc p ≡ row h (suc k) .to = head ∙ row-to k less in
+      let from : suc q ≡ row h (suc k) .from = tail ∙ row-from k less in
+      let high : suc p ≤ h .n = rw to (rg .to-high (suc k) (omega arith) (omega (arith, cols .rows))) in
+      let led : holds (arcs h (flagged flags) (suc p)) (suc q) ≡ true =
+      ap (λ (z : ℕ). holds z (suc q)) (sym (are (suc p) (omega arith) high)) ∙ ap (λ (z : ℕ). holds (getD sets z 0) (suc q)) place ∙ has in
+      rw (sym to, sym from)
+      (arc-mono h (flagged flags) (flagged fs) (λ i l u e. clash e (none (i - 1) (omega (arith, cols .rows)))) (suc p) (suc q) (out-arc h (flagged flags) (suc p) (suc q) (omega arith) led .1))
 
 -- a set without one junction
 pub cleared :
@@ -258,7 +267,7 @@ module _ (fs : List Bool) (k : ℕ) (h : Hall) (rg : Ranged h) (n m : ℕ) (ts h
   q-from = tail ∙ row-from fs k h n m ts hs cols less k less
 
   pub turn-dropped :
-      ((y : ℕ) → 1 ≤ y → holds r y ≡ true → (holds (getD sets p 0) y ≡ true) × (y ≡ suc q → Backed h (flagged fs) (suc k))) →
+      ((y : ℕ) → 1 ≤ y → holds r y ≡ true → (holds (getD sets p 0) y ≡ true) × (y ≡ suc q → Backed h (flagged (set fs k false)) (suc k))) →
       ((t : ℕ) → holds t (p + 1) ≡ true → Closed 64 (out-of (set sets p r)) t → holds t (q + 1) ≡ true) → Thinned h (set fs k false) (set sets p r)
   turn-dropped spare leads =
       let to-place : p + 1 ≡ row h (suc k) .to = omega (arith, p-to) in
@@ -266,8 +275,8 @@ module _ (fs : List Bool) (k : ℕ) (h : Hall) (rg : Ranged h) (n m : ℕ) (ts h
       let under = under-drop fs k h rg n m ts hs few cols less sets p r size low p-to (so-far .1)
       (λ y l e. (spare y l e .0, λ own. spare y l e .1 (own ∙ sym q-from))) in (
         dropped-joins fs k h rg n m ts hs few cols less (set sets p r) under (rw (to-place, from-place) at leads) (so-far .0),
-        under-taken fs k h rg n m ts hs few cols less (set sets p r) under,
+        under,
       )
 
-  pub turn-kept : Thinned h fs (set (set sets p r) p (getD sets p 0))
-  turn-kept = (so-far .0, under-back fs k h rg n m ts hs few cols less sets p r size low (so-far .1))
+  pub turn-kept : Thinned h (set (set fs k false) k (getD fs k false)) (set (set sets p r) p (getD sets p 0))
+  turn-kept = rw (set-set fs k false (getD fs k false), set-getD fs k false, set-set sets p r (getD sets p 0), set-getD sets p 0) so-far

@@ -1,4 +1,4 @@
--- Arcs that a row is not needed for, and sets of arcs that rows make. Assumes nothing: these are definitions.
+-- Arcs that rows make beside a row, and sets of arcs that they make. Assumes nothing: these are definitions.
 use mathlib.Core.Path.{_≡_}
 use mathlib.Core.Bool.{Bool, true}
 use mathlib.Core.List.{List}
@@ -6,12 +6,11 @@ use Prim.Native.Nat.{ℕ, _≤_}
 use Rattle.junctions.specs.Sets.{Within}
 use Rattle.hall.specs.Hall.{Hall, row}
 use Rattle.dicuts.specs.Arcs.{arc, arcs}
-use Rattle.neighbours.specs.Removal.{without}
 use Rattle.columns.specs.Columns.{at}
 
--- the arc from row f's head to its tail is there without f
+-- the rows F make the arc from row f's head to its tail
 unfoldable pub Backed : Hall → (F : ℕ → Bool) → (f : ℕ) → Type 0
-Backed h F f = arc h (without F f) (row h f .to) (row h f .from) ≡ true
+Backed h F f = arc h F (row h f .to) (row h f .from) ≡ true
 
 -- every arc of the sets is one of the rows F
 unfoldable pub Under : Hall → (F : ℕ → Bool) → (sets : List ℕ) → Type 0

@@ -11,7 +11,7 @@ ghost use Rattle.dicuts.specs.Shores.{Ranged, Linked, once, Joining};
 ghost use Rattle.columns.specs.Columns.{flagged, Ends, Columns};
 ghost use Rattle.pruning.specs.Backed.{Backed};
 
-mod order;
+mod dearest;
 
 // The first m rows.
 pub fn first_rows(m: usize) -> [bool; 256]
@@ -46,7 +46,7 @@ fn leads(arcs: &[u64; 64], start: usize, target: usize) -> bool
     false
 }
 
-// Whether another row makes the arc from the head of the row at place k to its tail.
+// Whether one of the rows runs from the tail of the row at place k to its head. All bytes, so that many rows are compared at once.
 fn backed<'a>(
     m: usize,
     tails: &'a [u8; 256],
@@ -62,15 +62,14 @@ fn backed<'a>(
     let mut found = false;
     let mut i: usize = 0;
     while i < m {
-        let forward = (tails[i] == head) & (heads[i] == tail);
-        let backward = (rows[i] & (i != k)) & ((heads[i] == head) & (tails[i] == tail));
-        found = found | (forward | backward);
+        found = found | (rows[i] & ((heads[i] == head) & (tails[i] == tail)));
         i += 1;
     }
     found
 }
 
-// The arcs of the head of the row at place k that are left without the row, where `twice` holds the tail of every arc that two rows make.
+// The arcs of the head of the row at place k that are left where the rows are without it: `forward` holds the tail of every row from
+// there, and `twice` that of every arc that two rows make.
 fn spared_arcs<'a>(
     m: usize,
     tails: &'a [u8; 256],
@@ -79,12 +78,17 @@ fn spared_arcs<'a>(
     k: usize,
     tail: usize,
     found: u64,
+    forward: u64,
     twice: u64,
 ) -> u64
     requires { ⌜ (m ≤ 256) × (k < m) × (tail < 64) ⌝ }
     ensures { λ r. ⌜ ((h : Hall) (n : ℕ) → Columns h n m (now (tails .entry)) (now (heads .entry)) →
+        (holds forward (suc tail) ≡ true → Backed h (flagged (now (rows .entry))) (suc k)) →
         (y : ℕ) → 1 ≤ y → holds r y ≡ true → (holds found y ≡ true) × (y ≡ suc tail → Backed h (flagged (now (rows .entry))) (suc k))) ⌝ }
 {
+    if (forward >> tail) % 2 == 1 {
+        return found;
+    }
     if (twice >> tail) % 2 == 1 {
         if backed(m, tails, heads, rows, k) {
             return found;
@@ -107,7 +111,7 @@ fn place(junction: u8) -> usize
     requires { ⌜ (1 ≤ junction) × (junction ≤ 64) ⌝ }
     ensures { λ r. ⌜ (suc r ≡ junction) × (r < 64) ⌝ }
 {
-    (junction - 1) as usize
+    (junction as usize) - 1
 }
 
 // Rows that join a linked hall.
@@ -122,22 +126,35 @@ pub fn start<'a>(
     ensures { λ r. ⌜ ((h : Hall) → Columns h n m (now (tails .entry)) (now (heads .entry)) → Ranged h → Linked h →
         Joining h (once (flagged r))) ⌝ }
 {
-    let order = order::dearest_first(m, prices);
+    let order = dearest::dearest_first(m, prices);
     let mut rows = first_rows(m);
     let mut arcs = adjacency::of_rows(n, m, tails, heads, &rows);
     let twice = tight::solid_arcs(n, m, tails, heads, &rows);
+    let none = [false; 256];
+    let forward = adjacency::of_rows(n, m, tails, heads, &none);
     let mut turn: usize = 0;
     while turn < m {
         let k = place_of(order[turn], m);
         let head = place(heads[k]);
         let tail = place(tails[k]);
         let found = arcs[head];
-        let rest = spared_arcs(m, tails, heads, &rows, k, tail, found, twice[head]);
+        let kept = rows[k];
+        rows[k] = false;
+        let rest = spared_arcs(
+            m,
+            tails,
+            heads,
+            &rows,
+            k,
+            tail,
+            found,
+            forward[head],
+            twice[head],
+        );
         arcs[head] = rest;
         let dropped = leads(&arcs, head + 1, tail + 1);
-        if dropped {
-            rows[k] = false;
-        } else {
+        if !dropped {
+            rows[k] = kept;
             arcs[head] = found;
         }
         turn += 1;

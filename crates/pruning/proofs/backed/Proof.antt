@@ -1,4 +1,4 @@
--- `pruning::backed` finds another row that makes the arc. Assumes nothing.
+-- `pruning::backed` finds one of the rows that makes the arc. Assumes nothing.
 use mathlib.Core.Logic.{⊎-elim}
 use mathlib.Core.Path.{_≡_, refl}
 use mathlib.Core.Bool.{true}
@@ -28,20 +28,14 @@ element-copy-out-head c = search needs
 loop-holds : tie.Need-loop-holds Inv-loop μ-loop
 loop-holds c = (omega arith, λ h n cols e. clash e refl)
 
-element-copy-out-forward : tie.Need-element-copy-out-forward Inv-loop μ-loop
-element-copy-out-forward c = search needs
+element-copy-out-found : tie.Need-element-copy-out-found Inv-loop μ-loop
+element-copy-out-found c = search needs
 
-element-copy-out-forward-2 : tie.Need-element-copy-out-forward-2 Inv-loop μ-loop
-element-copy-out-forward-2 c = search needs
+element-copy-out-found-2 : tie.Need-element-copy-out-found-2 Inv-loop μ-loop
+element-copy-out-found-2 c = search needs
 
-element-copy-out-backward : tie.Need-element-copy-out-backward Inv-loop μ-loop
-element-copy-out-backward c = search needs
-
-element-copy-out-backward-2 : tie.Need-element-copy-out-backward-2 Inv-loop μ-loop
-element-copy-out-backward-2 c = search needs
-
-element-copy-out-backward-3 : tie.Need-element-copy-out-backward-3 Inv-loop μ-loop
-element-copy-out-backward-3 c = search needs
+element-copy-out-found-3 : tie.Need-element-copy-out-found-3 Inv-loop μ-loop
+element-copy-out-found-3 c = search needs
 
 add-i : tie.Need-add-i Inv-loop μ-loop
 add-i c = search needs
@@ -51,10 +45,10 @@ loop-less c = search needs
 
 loop-again : tie.Need-loop-again Inv-loop μ-loop
 loop-again c =
-    let l = c .before .before .before .before .before .before .loop in
-    let a = c .before .before .before .before .before .before .before .before .before .args in (
+    let l = c .before .before .before .before .loop in
+    let a = c .before .before .before .before .before .before .before .args in (
       omega arith,
-      λ h n cols e. ⊎-elim (l .inv .1 h n cols) (backed-by (a .rows .now) (a .k) h n (a .m) (a .tails .now) (a .heads .now) cols (c .before .before .before .before .before .before .before .before .before .pre .1) (l .i) (omega arith)) (or-cases (l .found) _ e),
+      λ h n cols e. ⊎-elim (l .inv .1 h n cols) (backed-by (a .rows .now) (a .k) h n (a .m) (a .tails .now) (a .heads .now) cols (c .before .before .before .before .before .before .before .pre .1) (l .i) (omega arith)) (or-cases (l .found) _ e),
     )
 
 returns : tie.Need-returns Inv-loop μ-loop
@@ -69,11 +63,9 @@ backed-spec =
     element-copy-out-tail
     element-copy-out-head
     loop-holds
-    element-copy-out-forward
-    element-copy-out-forward-2
-    element-copy-out-backward
-    element-copy-out-backward-2
-    element-copy-out-backward-3
+    element-copy-out-found
+    element-copy-out-found-2
+    element-copy-out-found-3
     add-i
     loop-less
     loop-again
