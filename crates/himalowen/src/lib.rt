@@ -213,6 +213,7 @@ fn plan_hall(
     );
     let chosen = least.chosen;
     let potential = least.potential;
+    let around = least.around;
     let first = plan::first_choice(
         hall.n,
         hall.count,
@@ -221,6 +222,7 @@ fn plan_hall(
         &hall.prices,
         chosen,
         potential,
+        around,
     );
     let count = ledger::listing::list_rows(hall.count, &first, rows);
     let total = ledger::listing::total_of(hall.count, &hall.prices, &first);

@@ -1,6 +1,6 @@
 -- From the columns of an accepted hall to the start of each repair, and from its end on. Assumes nothing.
 use mathlib.Core.Path.{_≡_, refl, sym, ap, _∙_}
-use mathlib.Core.Bool.{Bool, true, false}
+use mathlib.Core.Bool.{Bool}
 use mathlib.Core.List.{List}
 use Prim.Native.Nat.{ℕ, suc, _+_, _*_, _-_, _^_, _<_, _≤_}
 use native.Mathlib.Omega.{arith}
@@ -9,11 +9,10 @@ use lib.ListN.{length, getD, replicate, getD-replicate, List·getD-eq-default}
 use borrow.Author.Tests.{ltb-true, ltb-false}
 use Rattle.laws.proofs.Booleans.{by-bool}
 use Rattle.hall.specs.Hall.{Hall, row, count}
-use Rattle.dicuts.specs.Shores.{Ranged, Joining, once}
-use Rattle.columns.specs.Columns.{at, flagged, Columns, Ends, Neighbourhoods}
-use Rattle.potentials.specs.Potential.{slack}
+use Rattle.dicuts.specs.Shores.{Joining, once}
+use Rattle.columns.specs.Columns.{at, flagged, Ends, Neighbourhoods}
 use Rattle.potentials.specs.Repair.{Repairable, Repaired}
-use Rattle.potentials.proofs.Same.{repairable-same, repaired-same}
+use Rattle.potentials.proofs.Same.{repaired-same}
 use Rattle.order.specs.Ranked.{ranked}
 use Rattle.planner.specs.Low.{Low}
 use Rattle.planner.specs.Repairs.{Repair-start, Repair-end}
@@ -64,9 +63,9 @@ module _ (h : Hall) (n m : ℕ) (tails heads prices : List ℕ) (rd : Ready h n 
     cost-most : (i : ℕ) → 1 ≤ i → i ≤ count h → at costs i ≤ 1000000
     cost-most i l u = omega (arith, cost-at (λ x. x) costs filled i l u, rd .dear i l u)
 
-    pub price-start : Repair-start n m tails heads costs (replicate 64 0) chosen
+    pub price-start : (near : List ℕ) → Neighbourhoods h (flagged chosen) near → Repair-start n m tails heads costs (replicate 64 0) chosen near
     unfolding level
-    price-start = flat-start h n m tails heads costs (replicate 64 0) chosen (rd .columns) (rd .ranged) (ends .size) 1000000 joins zero-level cost-most (omega (arith, few))
+    price-start near around = flat-start h n m tails heads costs (replicate 64 0) chosen near (rd .columns) (rd .ranged) (ends .size) around 1000000 joins zero-level cost-most (omega (arith, few))
 
     pub price-can : Repairable h (at costs) (at (replicate 64 0)) (flagged chosen)
     unfolding level
@@ -107,9 +106,9 @@ module _ (h : Hall) (n m : ℕ) (tails heads prices : List ℕ) (rd : Ready h n 
     small : h .n ≤ 64
     small = omega (arith, rd .columns .junctions, ends .size)
 
-    pub ranked-begin : Repair-start n m tails heads costs levels chosen
-    ranked-begin =
-        ranked-start h n m tails heads prices potential chosen (rd .columns) (rd .ranged) (ends .size) 257 costs levels at-prices over-price level-at (λ j l u. omega (arith, set .low j l u, few))
+    pub ranked-begin : (near : List ℕ) → Neighbourhoods h (flagged chosen) near → Repair-start n m tails heads costs levels chosen near
+    ranked-begin near around =
+        ranked-start h n m tails heads prices potential chosen near (rd .columns) (rd .ranged) (ends .size) around 257 costs levels at-prices over-price level-at (λ j l u. omega (arith, set .low j l u, few))
 
     pub ranked-can : Repairable h (at costs) (at levels) (flagged chosen)
     ranked-can = ranked-repairable h (rd .ranged) small (at prices) (at potential) (flagged chosen) 257 (at costs) (at levels) over-price level-at at-prices

@@ -1,5 +1,6 @@
 pub mod Rows
 pub mod Members
+pub mod Levels
 pub mod Swaps
 pub mod Rooms
 pub mod Lifts

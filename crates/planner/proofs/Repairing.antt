@@ -1,5 +1,5 @@
 -- The loop of repair: what it keeps from step to step, why it ends, and what it ends with. Assumes nothing.
-use mathlib.Core.Path.{_≡_, refl, ap, _∙_}
+use mathlib.Core.Path.{_≡_, refl}
 use mathlib.Core.Bool.{Bool, true, false, cond}
 use mathlib.Core.List.{List}
 use Prim.Native.Nat.{ℕ, zero, suc, _+_, _-_, _^_, _≤_, _<_}
@@ -8,16 +8,14 @@ use lib.Dec.{ltb}
 use lib.ListN.{getD, length, replicate, getD-replicate, List·getD-eq-default}
 use borrow.Author.Tests.{ltb-true, ltb-false}
 use Rattle.laws.specs.Finite.{sum-below}
-use Rattle.laws.specs.First.{first-below}
 use Rattle.laws.proofs.Booleans.{by-bool, clash, and-i}
 use Rattle.laws.proofs.Finite.{sum-ext}
-use Rattle.laws.proofs.First.{first-passes, first-least}
 use Rattle.hall.specs.Hall.{Hall, row, count}
 use Rattle.columns.specs.Columns.{at, flagged, Columns, Neighbourhoods}
 use Rattle.potentials.specs.Potential.{Paid, gap, slack}
 use Rattle.potentials.specs.Repair.{Repairable}
 use Rattle.planner.specs.Low.{Low}
-use Rattle.planner.specs.Repairs.{short, Free, Stepped, Repair-start, Repair-end}
+use Rattle.planner.specs.Repairs.{short, First-short, Some-short, Free, Stepped, Repair-start, Repair-end}
 
 -- the slack, from the columns: it falls with each step
 unfoldable pub columns-slack : (m : ℕ) (tails heads : List ℕ) (c p : ℕ → ℕ) (F : ℕ → Bool) → ℕ
@@ -46,25 +44,25 @@ all-free h movable few set i l u = set (i - 1) (omega arith)
 pub all-set : (k : ℕ) → k < 256 → getD (replicate 256 true) k false ≡ true
 all-set k less = getD-replicate 256 k true false less
 
--- what repair keeps, with the place of the first row that has a gap
+-- the first from place 0 on is one
+pub first-some : (h : Hall) (c p : ℕ → ℕ) (F : ℕ → Bool) (m r : ℕ) → First-short h c p F 0 m r → Some-short h c p F m r
+first-some h c p F m r first = record { here = first .here; none = λ done k l. first .earlier k (omega arith) (omega arith) }
+
+-- what repair keeps, with the place of a row that has a gap
 pub record Kept (h : Hall) (c p q : ℕ → ℕ) (F G : ℕ → Bool) (near : List ℕ) (m k : ℕ) : Type 0 where
   pub repairable : Repairable h c q G
   pub around : Neighbourhoods h G near
   pub bound : (j : ℕ) → 1 ≤ j → j ≤ 64 → q j + slack h c q G ≤ p j + slack h c p F
-  pub next : k ≡ first-below m (λ i. short h c q G (suc i))
+  pub next : Some-short h c q G m k
 
 module _ (h : Hall) (c p : ℕ → ℕ) (F : ℕ → Bool) (m : ℕ) where
   pub kept-start :
-      (near : List ℕ) (k : ℕ) → Repairable h c p F → Neighbourhoods h F near → k ≡ first-below m (λ i. short h c p F (suc i)) → Kept h c p p F F near m k
+      (near : List ℕ) (k : ℕ) → Repairable h c p F → Neighbourhoods h F near → Some-short h c p F m k → Kept h c p p F F near m k
   kept-start near k start around next = record { repairable = start; around = around; bound = λ j l u. omega arith; next = next }
 
   module _ (q : ℕ → ℕ) (G : ℕ → Bool) (near : List ℕ) (k : ℕ) (kept : Kept h c p q F G near m k) where
-    pub kept-short : k < m → short h c q G (suc k) ≡ true
-    kept-short less =
-        ap (λ (i : ℕ). short h c q G (suc i)) (kept .next) ∙ first-passes m (λ i. short h c q G (suc i)) (omega (arith, kept .next))
-
     pub kept-more :
-        (s : ℕ → ℕ) (H : ℕ → Bool) (nears : List ℕ) (i : ℕ) → Stepped h c q s G H nears → i ≡ first-below m (λ i. short h c s H (suc i)) →
+        (s : ℕ → ℕ) (H : ℕ → Bool) (nears : List ℕ) (i : ℕ) → Stepped h c q s G H nears → Some-short h c s H m i →
         Kept h c p s F H nears m i
     kept-more s H nears i step next =
         record {
@@ -81,7 +79,7 @@ module _ (h : Hall) (c p : ℕ → ℕ) (F : ℕ → Bool) (m : ℕ) where
     all-paid rows done (suc i) l u t =
         let test : Bool = ltb (q (row h (suc i) .to)) (q (row h (suc i) .from) + c (suc i)) in
         by-bool test
-        (λ e. clash (and-i (G (suc i)) test t e) (first-least m (λ i. short h c q G (suc i)) i (omega (arith, kept .next, rows))))
+        (λ e. clash (and-i (G (suc i)) test t e) (kept .next .none done i (omega (arith, rows))))
         (λ e. ltb-false (q (row h (suc i) .to)) (q (row h (suc i) .from) + c (suc i)) e)
 
     pub kept-end : count h ≡ m → m ≤ k → Repair-end h c p q F G near
@@ -96,7 +94,7 @@ module _ (h : Hall) (c p : ℕ → ℕ) (F : ℕ → Bool) (m : ℕ) where
 
 -- while it runs, levels stay low
 pub kept-low :
-    (n m : ℕ) (tails heads costs potential : List ℕ) (chosen : List Bool) (start : Repair-start n m tails heads costs potential chosen) (q near : List ℕ) (G : ℕ → Bool) (k : ℕ) →
+    (n m : ℕ) (tails heads costs potential : List ℕ) (chosen : List Bool) (around : List ℕ) (start : Repair-start n m tails heads costs potential chosen around) (q near : List ℕ) (G : ℕ → Bool) (k : ℕ) →
     length q ≡ 64 → Kept (start .hall) (at costs) (at potential) (at q) (flagged chosen) G near m k → Low q
-kept-low n m tails heads costs potential chosen start q near G k size kept =
+kept-low n m tails heads costs potential chosen around start q near G k size kept =
     low-levels q size (λ j l u. omega (arith, kept .bound j l u, start .bound j l u))

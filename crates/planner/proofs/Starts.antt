@@ -12,7 +12,7 @@ use Rattle.laws.proofs.DoubleSums.{sum-constant}
 use Rattle.laws.proofs.Finite.{sum-le}
 use Rattle.hall.specs.Hall.{Hall, row, count}
 use Rattle.dicuts.specs.Shores.{Ranged, once, Joining}
-use Rattle.columns.specs.Columns.{at, flagged, Columns}
+use Rattle.columns.specs.Columns.{at, flagged, Columns, Neighbourhoods}
 use Rattle.potentials.specs.Potential.{Under, Paid, Parted, gap, slack}
 use Rattle.potentials.specs.Repair.{Repairable, Repaired}
 use Rattle.planner.specs.Repairs.{Repair-start}
@@ -99,32 +99,35 @@ module _ (h : Hall) (rg : Ranged h) (small : h .n ≤ 64) (c p : ℕ → ℕ) (F
         )
 
 -- the same over columns
-module _ (h : Hall) (n m : ℕ) (tails heads costs potential : List ℕ) (chosen : List Bool) (cols : Columns h n m tails heads) (rg : Ranged h) (small : n ≤ 64) where
+module _ (h : Hall) (n m : ℕ) (tails heads costs potential : List ℕ) (chosen : List Bool) (near : List ℕ) (cols : Columns h n m tails heads) (rg : Ranged h) (small : n ≤ 64)
+    (around : Neighbourhoods h (flagged chosen) near) where
   in-64 : h .n ≤ 64
   in-64 = omega (arith, cols .junctions)
 
   pub flat-start :
       (e : ℕ) → Joining h (once (flagged chosen)) → ((j : ℕ) → 1 ≤ j → j ≤ 64 → at potential j ≡ 0) → ((i : ℕ) → 1 ≤ i → i ≤ count h → at costs i ≤ e) →
-      count h * e < 2 ^ 62 → Repair-start n m tails heads costs potential chosen
+      count h * e < 2 ^ 62 → Repair-start n m tails heads costs potential chosen near
   flat-start e joining none most fits =
       record {
         hall = h;
         columns = cols;
         ranged = rg;
         repairable = flat-repairable h rg in-64 (at costs) (at potential) (flagged chosen) none joining;
+        around = around;
         bound = λ j l u. omega (arith, none j l u, flat-slack h rg in-64 (at costs) (at potential) (flagged chosen) none e most);
       }
 
   pub ranked-start :
       (a : ℕ) (highs levels : List ℕ) → Repaired h (at costs) (at potential) (flagged chosen) →
       ((i : ℕ) → 1 ≤ i → i ≤ count h → at highs i ≡ a * at costs i + 1) → ((j : ℕ) → 1 ≤ j → j ≤ 64 → at levels j ≡ a * at potential j) →
-      ((j : ℕ) → 1 ≤ j → j ≤ 64 → a * at potential j + count h < 2 ^ 62) → Repair-start n m tails heads highs levels chosen
+      ((j : ℕ) → 1 ≤ j → j ≤ 64 → a * at potential j + count h < 2 ^ 62) → Repair-start n m tails heads highs levels chosen near
   ranked-start a highs levels end higher level fits =
       record {
         hall = h;
         columns = cols;
         ranged = rg;
         repairable = ranked-repairable h rg in-64 (at costs) (at potential) (flagged chosen) a (at highs) (at levels) higher level end;
+        around = around;
         bound = λ j l u.
             omega (
               arith,

@@ -1,5 +1,5 @@
 -- A step of repair: what is reached is raised, or the route is flipped; either way what repair keeps is kept, and the slack falls. Assumes nothing.
-use mathlib.Core.Path.{_≡_, refl, sym, ap, subst, _∙_}
+use mathlib.Core.Path.{_≡_, refl, sym, subst, _∙_}
 use mathlib.Core.Bool.{Bool, true, false}
 use mathlib.Core.List.{List}
 use Prim.Native.Nat.{ℕ, suc, _+_, _-_, _^_, _≤_, _<_}
@@ -7,15 +7,16 @@ use native.Mathlib.Omega.{arith}
 use lib.Dec.{ltb}
 use lib.ListN.{getD}
 use lib.Pow.{pow-lt}
-use borrow.Author.Tests.{ltb-true}
+use borrow.Author.Tests.{eq-eqb, ltb-true}
 use Rattle.laws.proofs.Booleans.{and-l, and-r}
-use Rattle.junctions.specs.Sets.{holds}
+use Rattle.junctions.specs.Sets.{holds, Within}
+use Rattle.junctions.proofs.Sets.{one-holds}
 use Rattle.digraph.specs.Adjacency.{out-of}
 use Rattle.digraph.specs.Distances.{near}
 use Rattle.digraph.specs.Paths.{Distances}
 use Rattle.digraph.specs.Reach.{Closed, Reach}
-use Rattle.digraph.proofs.Closure.{reach-narrow, reach-narrow-lt, reach-unique}
-use Rattle.digraph.proofs.Paths.{near-holds, near-lt, near-reach, distances-narrow}
+use Rattle.digraph.proofs.Closure.{reach-narrow, reach-narrow-lt}
+use Rattle.digraph.proofs.Paths.{near-holds, near-reach}
 use Rattle.digraph.proofs.Same.{closed-same}
 use Rattle.hall.specs.Hall.{Hall, row, count}
 use Rattle.dicuts.specs.Shores.{Ranged, once}
@@ -41,10 +42,24 @@ module _ (h : Hall) (n m : ℕ) (tails heads : List ℕ) (cols : Columns h n m t
   pub place-head : getD heads k 0 ≡ row h (suc k) .to
   place-head = let back : suc k - 1 ≡ k = omega arith in rw back at (cols .head (suc k) (omega arith) less)
 
+-- what is reached among the 64 junctions is at a distance
+pub reached-near :
+    (out : ℕ → ℕ) (start reached : ℕ) (dist : ℕ → ℕ) → 1 ≤ start → start ≤ 64 → ((j : ℕ) → out j < 2 ^ 64) → Distances 64 out start dist →
+    Reach 64 out (2 ^ (start - 1)) reached → (j : ℕ) → 1 ≤ j → j ≤ 64 → holds reached j ≡ true → dist j < 64
+unfolding Within
+reached-near out start reached dist low high ranged d reach j l u t =
+    let around : Reach 64 out (2 ^ (start - 1)) (near 64 dist) = near-reach 64 out start dist d low high (λ i li ui. ranged i) in
+    ltb-true (dist j) 64 (sym (near-holds 64 out start dist d j l u) ∙ reach .least (near 64 dist) (around .contains) (around .closed) j l t)
+
+-- a start is reached
+pub start-reached : (out : ℕ → ℕ) (start reached : ℕ) → 1 ≤ start → Reach 64 out (2 ^ (start - 1)) reached → holds reached start ≡ true
+unfolding Within
+start-reached out start reached low reach = reach .contains start low (one-holds start start low low ∙ eq-eqb start start refl)
+
 module _ (h : Hall) (m : ℕ → Bool) (c p : ℕ → ℕ) (F : ℕ → Bool) where
-  -- what is reached in the zero graph, beside the distances
-  module _ (graph : List ℕ) (start reached : ℕ) (dist : ℕ → ℕ) (small : h .n ≤ 64) (low : 1 ≤ start) (high : start ≤ h .n) (is : Zero-graph h m c p F graph)
-      (d : Distances 64 (out-of graph) start dist) (reach : Reach 64 (out-of graph) (2 ^ (start - 1)) reached) where
+  -- what is reached in the zero graph
+  module _ (graph : List ℕ) (start reached : ℕ) (small : h .n ≤ 64) (low : 1 ≤ start) (high : start ≤ h .n) (is : Zero-graph h m c p F graph)
+      (reach : Reach 64 (out-of graph) (2 ^ (start - 1)) reached) where
     few : 2 ^ (start - 1) < 2 ^ h .n
     few = pow-lt {i = start - 1} {j = h .n} (omega arith)
 
@@ -54,19 +69,10 @@ module _ (h : Hall) (m : ℕ → Bool) (c p : ℕ → ℕ) (F : ℕ → Bool) wh
     pub reached-lt : reached < 2 ^ h .n
     reached-lt = reach-narrow-lt (h .n) (out-of graph) (2 ^ (start - 1)) reached small few ranged reach
 
-    reached-narrow : Reach (h .n) (out-of graph) (2 ^ (start - 1)) reached
-    reached-narrow = reach-narrow (h .n) (out-of graph) (2 ^ (start - 1)) reached small few ranged reach
-
     pub reached-closed : Closed (h .n) (zero-arcs h m c p F) reached
-    reached-closed = closed-same (h .n) (out-of graph) (zero-arcs h m c p F) (is .inside) reached (reached-narrow .closed)
-
-    pub reached-near : (j : ℕ) → 1 ≤ j → j ≤ h .n → holds reached j ≡ ltb (dist j) (h .n)
-    reached-near j l u =
-        let first : Distances (h .n) (out-of graph) start dist = distances-narrow 64 (h .n) (out-of graph) start dist small high ranged d in
-        let same : reached ≡ near (h .n) dist =
-        reach-unique (h .n) (out-of graph) (2 ^ (start - 1)) reached (near (h .n) dist) reached-lt (near-lt (h .n) (out-of graph) start dist first) reached-narrow
-        (near-reach (h .n) (out-of graph) start dist first low high ranged) in
-        ap (λ (s : ℕ). holds s j) same ∙ near-holds (h .n) (out-of graph) start dist first j l u
+    reached-closed =
+        closed-same (h .n) (out-of graph) (zero-arcs h m c p F) (is .inside) reached
+        (reach-narrow (h .n) (out-of graph) (2 ^ (start - 1)) reached small few ranged reach .closed)
 
   module _ (rg : Ranged h) (free : Free h m) (start : Repairable h c p F) (i : ℕ) (l : 1 ≤ i) (u : i ≤ count h) (at-row : short h c p F i ≡ true) where
     row-chosen : F i ≡ true

@@ -3,7 +3,7 @@ use mathlib.Core.Path.{_≡_, sym, ap, ap₂, _∙_}
 use mathlib.Core.Bool.{Bool, true, false, _&&_, _||_, or-false}
 use mathlib.Core.List.{List}
 use mathlib.Core.Logic.{_⊎_, inl, inr, ⊎-elim}
-use Prim.Native.Nat.{ℕ, suc, _+_, _-_, _≤_, _<_}
+use Prim.Native.Nat.{ℕ, suc, _+_, _-_, _^_, _≤_, _<_}
 use native.Mathlib.Omega.{arith}
 use lib.Bits.{bitOr}
 use lib.Dec.{eqb, leb}
@@ -32,6 +32,14 @@ pub record Swapped (h : Hall) (movable : ℕ → Bool) (c p : ℕ → ℕ) (F : 
   pub done : (z y : ℕ) → 1 ≤ z → z ≤ x → 1 ≤ y → holds (at sets z) y ≡ zero-arc h movable c p F z y
   pub left : (z y : ℕ) → 1 ≤ z → x < z → z ≤ 64 → 1 ≤ y →
       holds (at sets z) y ≡ any-below (count h) (λ k. opens h movable c p z y (suc k) || closes h movable F z y (suc k))
+
+-- neighbourhoods lie within the hall
+pub near-lt : (h : Hall) (F : ℕ → Bool) (neighbours : List ℕ) (n x : ℕ) → Neighbourhoods h F neighbours → h .n ≡ n → x < n → getD neighbours x 0 < 2 ^ n
+unfolding Neighbourhoods
+near-lt h F neighbours n x near size less =
+    let place : suc x - 1 ≡ x = omega arith in
+    let there : getD neighbours x 0 ≡ around h (once F) (suc x) = ap (λ (i : ℕ). getD neighbours i 0) (sym place) ∙ near (suc x) (omega arith) (omega arith) in
+    rw (there, sym size) (around-lt h (once F) (suc x))
 
 module _ (h : Hall) (movable : ℕ → Bool) (c : ℕ → ℕ) (potential : List ℕ) (F : ℕ → Bool) where
   pub swapped-none : (m : ℕ) (sets : List ℕ) → count h ≡ m → Row-arcs h movable c (at potential) F m sets → Swapped h movable c (at potential) F 0 sets

@@ -1,4 +1,5 @@
 pub mod Low
+pub mod Levels
 pub mod Zero
 pub mod Rooms
 pub mod Flips

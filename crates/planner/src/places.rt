@@ -11,7 +11,7 @@ pub fn place(junction: u8) -> usize
     requires { ⌜ (1 ≤ junction) × (junction ≤ 64) ⌝ }
     ensures { λ r. ⌜ (suc r ≡ junction) × (r < 64) ⌝ }
 {
-    (junction - 1) as usize
+    (junction as usize) - 1
 }
 
 // The number of a junction.

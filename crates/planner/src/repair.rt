@@ -1,5 +1,6 @@
 // Repair: while a chosen row has a gap, flip or raise.
 use crate::flip::flip;
+use crate::places::has;
 use crate::places::number;
 use crate::places::place;
 use crate::raise::raise_for;
@@ -8,13 +9,12 @@ ghost use mathlib.Core.Path.{_≡_};
 ghost use mathlib.Core.Bool.{true};
 ghost use Prim.Native.Nat.{ℕ, suc, _<_};
 ghost use lib.ListN.{length};
-ghost use Rattle.laws.specs.First.{first-below};
 ghost use Rattle.hall.specs.Hall.{Hall};
 ghost use Rattle.dicuts.specs.Shores.{Ranged};
 ghost use Rattle.potentials.specs.Repair.{Repairable};
 ghost use Rattle.columns.specs.Columns.{at, flagged, Ends, Columns, Neighbourhoods};
 ghost use Rattle.planner.specs.Low.{Low};
-ghost use Rattle.planner.specs.Repairs.{short, Free, Stepped, Repair-start, Repair-end};
+ghost use Rattle.planner.specs.Repairs.{short, First-short, Some-short, Free, Stepped, Repair-start, Repair-end};
 
 // A choice with its tight neighbourhoods, and a potential.
 pub struct State {
@@ -23,7 +23,7 @@ pub struct State {
     pub around: [u64; 64],
 }
 
-// The place of the first chosen row with a gap, or the count where there is none.
+// The place of the first chosen row with a gap, from a place on, or the count where there is none.
 pub fn unpaid<'a>(
     count: usize,
     tails: &'a [u8; 256],
@@ -31,12 +31,13 @@ pub fn unpaid<'a>(
     costs: &'a [u64; 256],
     chosen: &'a [bool; 256],
     potential: &'a [u64; 64],
+    from: usize,
 ) -> usize
     requires { ⌜ Ends 64 count (now tails) (now heads) × Low (now costs) × Low (now potential) ⌝ }
     ensures { λ r. ⌜ ((h : Hall) (n : ℕ) → Columns h n count (now (tails .entry)) (now (heads .entry)) →
-        r ≡ first-below count (λ k. short h (at (now (costs .entry))) (at (now (potential .entry))) (flagged (now (chosen .entry))) (suc k))) ⌝ }
+        First-short h (at (now (costs .entry))) (at (now (potential .entry))) (flagged (now (chosen .entry))) from count r) ⌝ }
 {
-    let mut k: usize = 0;
+    let mut k: usize = from;
     while k < count {
         let tail = place(tails[k]);
         let head = place(heads[k]);
@@ -46,6 +47,27 @@ pub fn unpaid<'a>(
         k += 1;
     }
     count
+}
+
+// The place of a chosen row with a gap, or the count where there is none: from the last such row on, then from the start.
+pub fn next_unpaid<'a>(
+    count: usize,
+    tails: &'a [u8; 256],
+    heads: &'a [u8; 256],
+    costs: &'a [u64; 256],
+    chosen: &'a [bool; 256],
+    potential: &'a [u64; 64],
+    last: usize,
+) -> usize
+    requires { ⌜ Ends 64 count (now tails) (now heads) × Low (now costs) × Low (now potential) ⌝ }
+    ensures { λ r. ⌜ ((h : Hall) (n : ℕ) → Columns h n count (now (tails .entry)) (now (heads .entry)) →
+        Some-short h (at (now (costs .entry))) (at (now (potential .entry))) (flagged (now (chosen .entry))) count r) ⌝ }
+{
+    let later = unpaid(count, tails, heads, costs, chosen, potential, last);
+    if later < count {
+        return later;
+    }
+    unpaid(count, tails, heads, costs, chosen, potential, 0)
 }
 
 // One step for the chosen row at a place, which has a gap: a flip that drops it, or a raise.
@@ -82,8 +104,9 @@ pub fn repair_step<'a>(
         potential,
         around,
     );
-    let distances = digraph::distances(&graph, head);
-    if digraph::distance(&distances, tail) < 64 {
+    let reached = digraph::reach(&graph, 1 << (head - 1));
+    if has(reached, tail - 1) {
+        let distances = digraph::distances(&graph, head);
         let next = flip(
             count,
             tails,
@@ -106,7 +129,6 @@ pub fn repair_step<'a>(
             around: sets,
         };
     }
-    let reached = digraph::reach(&graph, 1 << (head - 1));
     let lifted = raise_for(
         count,
         tails,
@@ -125,7 +147,7 @@ pub fn repair_step<'a>(
     }
 }
 
-// Steps until no chosen row has a gap: the choice that is left is one of the cheapest.
+// Steps from a choice with its tight neighbourhoods until no chosen row has a gap: the choice that is left is one of the cheapest.
 pub fn repair<'a>(
     n: usize,
     count: usize,
@@ -134,20 +156,28 @@ pub fn repair<'a>(
     costs: &'a [u64; 256],
     chosen: [bool; 256],
     potential: [u64; 64],
+    around: [u64; 64],
 ) -> State
-    requires { ⌜ Ends n count (now tails) (now heads) × Low (now costs) × Repair-start n count (now tails) (now heads) (now costs) potential chosen ⌝ }
+    requires { ⌜ Ends n count (now tails) (now heads) × Low (now costs) × Repair-start n count (now tails) (now heads) (now costs) potential chosen around ⌝ }
     ensures { λ r. ⌜ ((h : Hall) → Columns h n count (now (tails .entry)) (now (heads .entry)) → Ranged h →
-        Repairable h (at (now (costs .entry))) (at potential) (flagged chosen) →
+        Repairable h (at (now (costs .entry))) (at potential) (flagged chosen) → Neighbourhoods h (flagged chosen) around →
         Repair-end h (at (now (costs .entry))) (at potential) (at (r .potential)) (flagged chosen) (flagged (r .chosen)) (r .around)) ⌝ }
 {
     let movable = [true; 256];
-    let around = tight::neighbourhoods(n, count, tails, heads, &chosen);
     let mut state = State {
         chosen,
         potential,
         around,
     };
-    let mut row = unpaid(count, tails, heads, costs, &state.chosen, &state.potential);
+    let mut row = unpaid(
+        count,
+        tails,
+        heads,
+        costs,
+        &state.chosen,
+        &state.potential,
+        0,
+    );
     while row < count {
         let next = repair_step(
             n,
@@ -162,7 +192,15 @@ pub fn repair<'a>(
             row,
         );
         state = next;
-        row = unpaid(count, tails, heads, costs, &state.chosen, &state.potential);
+        row = next_unpaid(
+            count,
+            tails,
+            heads,
+            costs,
+            &state.chosen,
+            &state.potential,
+            row,
+        );
     }
     state
 }

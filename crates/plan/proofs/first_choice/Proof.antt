@@ -1,9 +1,7 @@
 -- `plan::first_choice` meets its contract. Assumes nothing.
 use borrow.Author.Needs.{needs}
-use mathlib.Core.Path.{_∙_}
-use Prim.Native.Nat.{ℕ, _+_, _*_}
+use Prim.Native.Nat.{_+_, _*_}
 use native.Mathlib.Omega.{arith}
-use Rattle.columns.specs.Columns.{at, flagged}
 use Rattle.plan.proofs.Stages.{priced, level-low, costs-low, ranked-at, ranked-begin, ranked-can, ranked-end, ranked-low}
 use Rattle.plan.proofs.first_choice.Statement.{statement}
 use Rattle.plan.proofs.first_choice.Tie as tie
@@ -19,7 +17,8 @@ repair-requires : tie.Need-repair-requires
 repair-requires c κs = let s = c .before .before .before .before in let a = s .args in let w = s .pre .1 in let costs = c .before .before .before .ranked-costs in (
   s .pre .0,
   costs-low (w .0) (a .n) (a .m) (a .tails .now) (a .heads .now) (a .prices .now) (w .1) (s .pre .0) (λ x. 257 * x + 1) (costs .result) (costs .ensures) 257000001 (λ x l. omega arith) (omega arith),
-  ranked-begin (w .0) (a .n) (a .m) (a .tails .now) (a .heads .now) (a .prices .now) (w .1) (s .pre .0) (costs .result) (costs .ensures) (a .t7) (a .chosen) (w .2) (c .before .scaled .result) (c .before .scaled .ensures),
+  ranked-begin (w .0) (a .n) (a .m) (a .tails .now) (a .heads .now) (a .prices .now) (w .1) (s .pre .0) (costs .result) (costs .ensures) (a .t7) (a .chosen) (w .2) (c .before .scaled .result) (c .before .scaled .ensures)
+      (a .around) (w .3),
 )
 
 decide-all-requires : tie.Need-decide-all-requires
@@ -29,16 +28,16 @@ decide-all-requires c κs = let s = c .before .before .before .before .before .b
       s .pre .0,
       costs-low (w .0) (a .n) (a .m) (a .tails .now) (a .heads .now) (a .prices .now) (w .1) (s .pre .0) (λ x. 257 * x + 1) (costs .result) (costs .ensures) 257000001 (λ x l. omega arith) (omega arith),
       ranked-low (w .0) (a .n) (a .m) (a .tails .now) (a .heads .now) (a .prices .now) (w .1) (s .pre .0) (costs .result) (costs .ensures) (a .t7) (a .chosen) (w .2) (levels .result) (levels .ensures)
-          (got .result .potential) (got .result .chosen) (got .result .around) (got .ensures (w .0) (w .1 .columns) (w .1 .ranged) can) (search needs),
+          (got .result .potential) (got .result .chosen) (got .result .around) (got .ensures (w .0) (w .1 .columns) (w .1 .ranged) can (w .3)) (search needs),
       search needs,
     )
 
 returns : tie.Need-returns
 returns c = let s = c .before .before .before .before .before .before .before .before .before .before .before in let a = s .args in
     let costs = c .before .before .before .before .before .before .before .before .before .before .ranked-costs in let levels = c .before .before .before .before .before .before .before .before .scaled in let got = c .before .before .before .before .before .before .repair in
-    λ h rd set.
+    λ h rd set near.
     let can = ranked-can h (a .n) (a .m) (a .tails .now) (a .heads .now) (a .prices .now) rd (s .pre .0) (costs .result) (costs .ensures) (a .t7) (a .chosen) set (levels .result) (levels .ensures) in
-    let end = got .ensures h (rd .columns) (rd .ranged) can in
+    let end = got .ensures h (rd .columns) (rd .ranged) can near in
     c .decide-all .ensures h (rd .columns) (rd .ranged)
     (λ i l u. ranked-at h (a .n) (a .m) (a .tails .now) (a .heads .now) (a .prices .now) rd (s .pre .0) (costs .result) (costs .ensures) (a .t7) (a .chosen) set (levels .result) (levels .ensures) i l (omega (arith, rd .columns .rows)))
     (ranked-end h (a .n) (a .m) (a .tails .now) (a .heads .now) (a .prices .now) rd (s .pre .0) (costs .result) (costs .ensures) (a .t7) (a .chosen) set (levels .result) (levels .ensures)

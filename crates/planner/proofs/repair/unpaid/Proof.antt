@@ -1,4 +1,4 @@
--- Unpaid finds the first row: none before place k is chosen with a gap. Assumes nothing.
+-- Unpaid finds the first row from a place on: none there before place k is chosen with a gap. Assumes nothing.
 use mathlib.Core.Path.{_≡_, sym, _∙_}
 use mathlib.Core.Bool.{false}
 use mathlib.Core.List.{[]}
@@ -6,7 +6,6 @@ use Prim.Native.Nat.{ℕ, suc, _-_, _≤_, _<_}
 use native.Mathlib.Omega.{arith}
 use borrow.Author.Count.{below-more}
 use borrow.Author.Needs.{needs}
-use Rattle.laws.proofs.First.{first-more, first-none}
 use Rattle.hall.specs.Hall.{Hall}
 use Rattle.columns.specs.Columns.{at, flagged, Columns}
 use Rattle.planner.specs.Repairs.{short}
@@ -15,13 +14,13 @@ use Rattle.planner.proofs.repair.unpaid.Statement.{statement}
 use Rattle.planner.proofs.repair.unpaid.Tie as tie
 
 abbrev Inv-loop : tie.InvT-loop
-Inv-loop count tails heads costs chosen potential k₀ k = (k ≤ count) × ((h : Hall) (n : ℕ) → Columns h n count tails heads → (i : ℕ) → i < k → short h (at costs) (at potential) (flagged chosen) (suc i) ≡ false)
+Inv-loop count tails heads costs chosen potential from k₀ k = (h : Hall) (n : ℕ) → Columns h n count tails heads → (i : ℕ) → i < k → from ≤ i → short h (at costs) (at potential) (flagged chosen) (suc i) ≡ false
 
 abbrev μ-loop : tie.MeasureT-loop
-μ-loop count tails heads costs chosen potential k₀ k = count - k
+μ-loop count tails heads costs chosen potential from k₀ k = count - k
 
 loop-holds : tie.Need-loop-holds Inv-loop μ-loop
-loop-holds c = (omega arith, λ h n cols i l. absurd (omega arith))
+loop-holds c = λ h n cols i l u. absurd (omega arith)
 
 element-copy-out-place : tie.Need-element-copy-out-place Inv-loop μ-loop
 element-copy-out-place c = search needs
@@ -64,9 +63,10 @@ add-if1 c = let t = c .before .before .before .before .before .before in let s =
 
 returns : tie.Need-returns Inv-loop μ-loop
 returns c = let two = c .before .before .before .before .before in let one = two .before .before in let test = one .before .before in let l = test .before in let s = l .before in let a = s .args in
-    let k = l .loop .k in λ h n cols.
-    sym (first-more (a .count) (λ i. short h (at (a .costs .now)) (at (a .potential .now)) (flagged (a .chosen .now)) (suc i)) k (test .loop-test .taken) (l .loop .inv .1 h n cols)
-    (sym (short-here h n (a .count) (a .tails .now) (a .heads .now) (a .costs .now) [] (a .chosen .now) (a .potential .now) cols k (one .place .result) (two .place2 .result) (test .loop-test .taken) (one .place .ensures .0) (two .place2 .ensures .0)) ∙ c .if1 .taken))
+    λ h n cols. record {
+      here = λ less. sym (short-here h n (a .count) (a .tails .now) (a .heads .now) (a .costs .now) [] (a .chosen .now) (a .potential .now) cols (l .loop .k) (one .place .result) (two .place2 .result) (test .loop-test .taken) (one .place .ensures .0) (two .place2 .ensures .0)) ∙ c .if1 .taken;
+      earlier = λ i low less. l .loop .inv h n cols i less low;
+    }
 
 add-k : tie.Need-add-k Inv-loop μ-loop
 add-k c = search needs
@@ -76,16 +76,13 @@ loop-less c = search needs
 
 loop-again : tie.Need-loop-again Inv-loop μ-loop
 loop-again c = let two = c .before .before .before .before .before in let one = two .before .before in let test = one .before .before in let l = test .before in let s = l .before in let a = s .args in
-    let k = l .loop .k in (
-      omega arith,
-      λ h n cols.
-          below-more (λ (i : ℕ). short h (at (a .costs .now)) (at (a .potential .now)) (flagged (a .chosen .now)) (suc i) ≡ false) k (l .loop .inv .1 h n cols)
-          (sym (short-here h n (a .count) (a .tails .now) (a .heads .now) (a .costs .now) [] (a .chosen .now) (a .potential .now) cols k (one .place .result) (two .place2 .result) (test .loop-test .taken) (one .place .ensures .0) (two .place2 .ensures .0)) ∙ c .if1 .left),
-    )
+    let k = l .loop .k in λ h n cols.
+    below-more (λ (i : ℕ). a .from ≤ i → short h (at (a .costs .now)) (at (a .potential .now)) (flagged (a .chosen .now)) (suc i) ≡ false) k (l .loop .inv h n cols)
+    (λ low. sym (short-here h n (a .count) (a .tails .now) (a .heads .now) (a .costs .now) [] (a .chosen .now) (a .potential .now) cols k (one .place .result) (two .place2 .result) (test .loop-test .taken) (one .place .ensures .0) (two .place2 .ensures .0)) ∙ c .if1 .left)
 
 returns-2 : tie.Need-returns-2 Inv-loop μ-loop
-returns-2 c = let l = c .before in let a = l .before .args in λ h n cols.
-    sym (first-none (a .count) (λ i. short h (at (a .costs .now)) (at (a .potential .now)) (flagged (a .chosen .now)) (suc i)) (λ i less. l .loop .inv .1 h n cols i (omega arith)))
+returns-2 c = let l = c .before in λ h n cols.
+    record { here = λ less. absurd (omega arith); earlier = λ i low less. l .loop .inv h n cols i (omega arith) low }
 
 pub unpaid-spec : {M : Type 1} → statement M
 unpaid-spec =
