@@ -1,15 +1,14 @@
 -- One row decided over the columns of a hall: it stays as it is, or what its tail reaches in the zero graph is raised, or a route to its head is flipped. Assumes nothing.
-use mathlib.Core.Bool.{Bool, true, false, _||_}
+use mathlib.Core.Bool.{Bool, true, false, _||_, not}
 use mathlib.Core.List.{List}
 use mathlib.Core.Logic.{⊎-elim}
 use mathlib.Core.Path.{_≡_, refl, sym, ap, subst, _∙_}
 use Prim.Native.Nat.{ℕ, suc, _+_, _-_, _*_, _%_, _^_, _≤_, _<_}
 use native.Mathlib.Omega.{arith}
-use lib.Dec.{ltb, leb}
+use lib.Dec.{ltb}
 use lib.ListN.{length, getD, List·getD-eq-default}
-use lib.Pow.{pow-mono}
-use borrow.Author.Tests.{ltb-true, ltb-false, leb-true, leb-false, le-ltb}
-use Rattle.laws.proofs.Booleans.{by-bool, clash, or-cases, or-false-r}
+use borrow.Author.Tests.{ltb-true, ltb-false}
+use Rattle.laws.proofs.Booleans.{by-bool, or-cases, or-false-r}
 use Rattle.junctions.specs.Sets.{holds, Within}
 use Rattle.junctions.proofs.Bits.{one-shl}
 use Rattle.junctions.proofs.Single.{one-lt, one-self}
@@ -33,9 +32,13 @@ use Rattle.columns.specs.Columns.{at, flagged, Columns}
 use Rattle.planner.specs.Zero.{Zero-graph}
 use Rattle.first.specs.Standing.{Movable}
 
+turned-round : (b c : Bool) → not b ≡ c → b ≡ not c
+turned-round true c e = ap not e
+turned-round false c e = ap not e
+
 -- a row that is neither chosen nor has a gap
-pub gap-none : (b : Bool) (x y : ℕ) → (b || ltb x y) ≡ false → y ≤ x
-gap-none b x y e = ltb-false x y (or-false-r b (ltb x y) e)
+pub gap-none : (b : Bool) (x y : ℕ) → not (b || ltb x y) ≡ true → y ≤ x
+gap-none b x y e = ltb-false x y (or-false-r b (ltb x y) (turned-round (b || ltb x y) true e))
 
 -- a raise by 1 adds at most 1 at each place
 pub raised-rise :
@@ -49,6 +52,18 @@ raised-rise z potential next size is j =
     let most : raised z 1 (at potential) (suc j) ≤ getD potential j 0 + 1 = rw place at (raised-most z 1 (at potential) (suc j)) in
     omega arith)
     (λ e. omega (arith, List·getD-eq-default next 0 {n = j} (omega (arith, ltb-false j 64 e))))
+
+-- what is reached from the junction at place a is at a distance from it
+pub reached-near :
+    (sets : List ℕ) → ((j : ℕ) → out-of sets j < 2 ^ 64) → (a : ℕ) → a < 64 → (dist : ℕ → ℕ) → Distances 64 (out-of sets) (suc a) dist → (r : ℕ) →
+    Reach 64 (out-of sets) ((1 * 2 ^ a) % 2 ^ 64) r → (y : ℕ) → 1 ≤ y → y ≤ 64 → holds r y ≡ true → dist y < 64
+unfolding Within
+reached-near sets words a few dist d r reach y l u e =
+    let place : suc a - 1 ≡ a = omega arith in
+    let near-is : Reach 64 (out-of sets) ((1 * 2 ^ a) % 2 ^ 64) (near 64 dist) =
+    rw (one-shl a few) (rw place at (near-reach 64 (out-of sets) (suc a) dist d (omega arith) (omega arith) (λ j p q. words j))) in
+    ltb-true (dist y) 64
+    (sym (near-holds 64 (out-of sets) (suc a) dist d y l u) ∙ reach .least (near 64 dist) (near-is .contains) (near-is .closed) y l e)
 
 -- the row at place k, its tail at place a and its head at place b
 module _ (h : Hall) (rg : Ranged h) (n m : ℕ) (ts hs : List ℕ) (few : n ≤ 64) (rows-few : m ≤ 256) (cols : Columns h n m ts hs) (k : ℕ) (less : k < m)
@@ -75,7 +90,7 @@ module _ (h : Hall) (rg : Ranged h) (n m : ℕ) (ts hs : List ℕ) (few : n ≤ 
 
   -- a chosen row stays in, and a row with a gap out
   pub stays :
-      (getD chosen k false || ltb (getD potential b 0) (getD potential a 0 + getD costs k 0)) ≡ true →
+      not (getD chosen k false || ltb (getD potential b 0) (getD potential a 0 + getD costs k 0)) ≡ false →
       Deciding h (at costs) (suc k) (at potential) (flagged chosen)
   stays e =
       let place : suc k - 1 ≡ k = omega arith in
@@ -83,7 +98,8 @@ module _ (h : Hall) (rg : Ranged h) (n m : ℕ) (ts hs : List ℕ) (few : n ≤ 
       (λ (q : ltb (getD potential b 0) (getD potential a 0 + getD costs k 0) ≡ true).
       deciding-out h rg (at costs) k row-high (at potential) (flagged chosen) so-far
       (omega (arith, at-tail, at-head, at-row, ltb-true (getD potential b 0) (getD potential a 0 + getD costs k 0) q)))
-      (or-cases (getD chosen k false) (ltb (getD potential b 0) (getD potential a 0 + getD costs k 0)) e)
+      (or-cases (getD chosen k false) (ltb (getD potential b 0) (getD potential a 0 + getD costs k 0))
+      (turned-round (getD chosen k false || ltb (getD potential b 0) (getD potential a 0 + getD costs k 0)) false e))
 
   moves : (i : ℕ) → 1 ≤ i → i ≤ count h → flagged movable i ≡ after k i
   moves i l u = later i l (omega (arith, cols .rows))
@@ -106,42 +122,15 @@ module _ (h : Hall) (rg : Ranged h) (n m : ℕ) (ts hs : List ℕ) (few : n ≤ 
         reach-same (h .n) (out-of sets) zero (graph .inside) (2 ^ (row h (suc k) .from - 1)) r
         (reach-narrow (h .n) (out-of sets) (2 ^ (row h (suc k) .from - 1)) r small (one-lt (h .n) (row h (suc k) .from) l u) inside start)
 
-    sets-lt : (j : ℕ) → 1 ≤ j → j ≤ 64 → out-of sets j < 2 ^ 64
-    sets-lt j l u =
-        by-bool (leb j (h .n))
-        (λ e.
-        omega (
-          arith,
-          graph .inside j l (leb-true j (h .n) e),
-          zero-arcs-lt h (flagged movable) (at costs) (at potential) (flagged chosen) j,
-          pow-mono {i = h .n} {j = 64} (omega (arith, cols .junctions)),
-        ))
-        (λ e. omega (arith, graph .outside j (leb-false j (h .n) e) u))
-
-    -- what is at no distance is not reached
-    far-out : (dist : ℕ → ℕ) → Distances 64 (out-of sets) (suc a) dist → a < 64 → b < 64 → 64 ≤ dist (suc b) → holds r (suc b) ≡ false
-    unfolding Within
-    far-out dist d a-few b-few far =
-        let place : suc a - 1 ≡ a = omega arith in
-        let near-is : Reach 64 (out-of sets) ((1 * 2 ^ a) % 2 ^ 64) (near 64 dist) =
-        rw (one-shl a a-few) (rw place at (near-reach 64 (out-of sets) (suc a) dist d (omega arith) (omega arith) sets-lt)) in
-        by-bool (holds r (suc b))
-        (λ e.
-        clash
-        (sym (near-holds 64 (out-of sets) (suc a) dist d (suc b) (omega arith) (omega arith))
-        ∙ reach .least (near 64 dist) (near-is .contains) (near-is .closed) (suc b) (omega arith) e)
-        (le-ltb (dist (suc b)) 64 far))
-        (λ e. e)
-
     -- where no route leads from the row's tail to its head, the row is out after a raise on what its tail reaches
     pub raised-out :
-        (dist : ℕ → ℕ) → Distances 64 (out-of sets) (suc a) dist → a < 64 → b < 64 → 64 ≤ dist (suc b) → (next : List ℕ) →
-        ((j : ℕ) → 1 ≤ j → j ≤ 64 → at next j ≡ raised r 1 (at potential) j) → Deciding h (at costs) (suc k) (at next) (flagged chosen)
+        holds r (suc b) ≡ false → (next : List ℕ) → ((j : ℕ) → 1 ≤ j → j ≤ 64 → at next j ≡ raised r 1 (at potential) j) →
+        Deciding h (at costs) (suc k) (at next) (flagged chosen)
     unfolding Within
-    raised-out dist d a-few b-few far next is =
+    raised-out away next is =
         let l = rg .from-low (suc k) (omega arith) row-high in
         let from-in : holds r (row h (suc k) .from) ≡ true = tail-reach .contains (row h (suc k) .from) l (one-self (row h (suc k) .from) l) in
-        let to-out : holds r (row h (suc k) .to) ≡ false = ap (holds r) (sym to-is) ∙ far-out dist d a-few b-few far in
+        let to-out : holds r (row h (suc k) .to) ≡ false = ap (holds r) (sym to-is) ∙ away in
         deciding-same h rg (at costs) (at costs) (λ i p q. refl) (raised r 1 (at potential)) (at next)
         (λ j p q. sym (is j p (omega (arith, cols .junctions)))) (flagged chosen) (flagged chosen) (λ i p q. refl) (suc k) row-high
         (deciding-raise h rg (at costs) k row-high (flagged movable) moves (at potential) (flagged chosen) so-far r (tail-reach .closed) from-in to-out)

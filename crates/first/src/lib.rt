@@ -1,5 +1,6 @@
 // The first choice of least ranked cost: row by row, each is decided for good.
 use planner::flip::flip;
+use planner::places::has;
 use planner::places::place;
 use planner::raise::raise;
 use planner::repair::State;
@@ -17,8 +18,8 @@ ghost use Rattle.columns.specs.Columns.{at, flagged, Ends, Columns, Neighbourho
 ghost use Rattle.planner.specs.Low.{Low};
 ghost use Rattle.first.specs.Standing.{Movable, Standing};
 
-// Decides the row at place k that is not chosen and has no gap: a route from its tail to its head is flipped and the row opened,
-// or the potential is raised on what the tail reaches.
+// Decides the row at place k that is not chosen and has no gap: where its tail reaches its head a route there is flipped and the
+// row opened, else the potential is raised on what the tail reaches.
 pub fn change<'a>(
     n: usize,
     m: usize,
@@ -52,8 +53,9 @@ pub fn change<'a>(
         potential,
         around,
     );
-    let distances = digraph::distances(&arcs, tail + 1);
-    if distances[head] < 64 {
+    let reached = digraph::reach(&arcs, 1 << tail);
+    if has(reached, head) {
+        let distances = digraph::distances(&arcs, tail + 1);
         let next = flip(
             m,
             tails,
@@ -76,7 +78,6 @@ pub fn change<'a>(
             around: sets,
         };
     }
-    let reached = digraph::reach(&arcs, 1 << tail);
     let lifted = raise(potential, reached, 1);
     State {
         chosen: *chosen,
@@ -85,51 +86,8 @@ pub fn change<'a>(
     }
 }
 
-// The choice, the potential and the neighbourhoods after the row at place k is decided, where the rows before it are.
-pub fn decide_row<'a>(
-    n: usize,
-    m: usize,
-    tails: &'a [u8; 256],
-    heads: &'a [u8; 256],
-    costs: &'a [u64; 256],
-    movable: &'a [bool; 256],
-    chosen: &'a [bool; 256],
-    potential: &'a [u64; 64],
-    around: &'a [u64; 64],
-    k: usize,
-) -> State
-    requires { ⌜ Ends n m (now tails) (now heads) × Low (now costs) × Low (now potential) × (length (now chosen) ≡ 256) × (k < m) ⌝ }
-    ensures { λ r. ⌜ ((h : Hall) → Columns h n m (now (tails .entry)) (now (heads .entry)) → Ranged h → Movable k (now (movable .entry)) →
-        Standing h (now (costs .entry)) k (now (potential .entry)) (now (chosen .entry)) (now (around .entry)) →
-        Standing h (now (costs .entry)) (suc k) (r .potential) (r .chosen) (r .around))
-        × ((j : ℕ) → getD (r .potential) j 0 ≤ getD (now (potential .entry)) j 0 + 1) × (length (r .chosen) ≡ 256) ⌝ }
-{
-    let tail = place(tails[k]);
-    let head = place(heads[k]);
-    if chosen[k] | (potential[head] < potential[tail] + costs[k]) {
-        return State {
-            chosen: *chosen,
-            potential: *potential,
-            around: *around,
-        };
-    }
-    change(
-        n,
-        m,
-        tails,
-        heads,
-        costs,
-        movable,
-        chosen,
-        potential,
-        around,
-        k,
-        tail,
-        head,
-    )
-}
-
 // The rows of the first choice, from a choice and a potential that meet P1, P2 and P3 for the ranked costs, and its neighbourhoods.
+// A row that is chosen or has a gap stays as it is.
 pub fn decide_all<'a>(
     n: usize,
     m: usize,
@@ -156,19 +114,25 @@ pub fn decide_all<'a>(
     let mut movable = [true; 256];
     let mut k: usize = 0;
     while k < m {
-        let next = decide_row(
-            n,
-            m,
-            tails,
-            heads,
-            costs,
-            &movable,
-            &state.chosen,
-            &state.potential,
-            &state.around,
-            k,
-        );
-        state = next;
+        let tail = place(tails[k]);
+        let head = place(heads[k]);
+        if !(state.chosen[k] | (state.potential[head] < state.potential[tail] + costs[k])) {
+            let next = change(
+                n,
+                m,
+                tails,
+                heads,
+                costs,
+                &movable,
+                &state.chosen,
+                &state.potential,
+                &state.around,
+                k,
+                tail,
+                head,
+            );
+            state = next;
+        }
         movable[k] = false;
         k += 1;
     }

@@ -1,26 +1,35 @@
 -- `first::change` meets its contract: a flip opens the row, or a raise gives it a gap. Assumes nothing.
-use mathlib.Core.Path.{_≡_}
-use Prim.Native.Nat.{suc, _+_, _-_}
+use mathlib.Core.Path.{sym, _∙_}
+use Prim.Native.Nat.{ℕ, _+_, _-_}
 use native.Mathlib.Numerals.{add-one}
 use native.Mathlib.Omega.{arith}
+use lib.ListN.{getD}
+use mir.Syntax.{w64}
+use mir.Val.{Fits}
 use borrow.Author.Needs.{needs}
 use Rattle.digraph.specs.Layers.{distance-of}
 use Rattle.planner.proofs.Rows.{ends-wide}
-use Rattle.first.proofs.Steps.{raised-rise, raised-out, flipped-in}
+use Rattle.first.proofs.Steps.{raised-rise, reached-near, raised-out, flipped-in}
 use Rattle.first.proofs.change.Statement.{statement}
 use Rattle.first.proofs.change.Tie as tie
 
 zero-graph-requires : tie.Need-zero-graph-requires
 zero-graph-requires c κs = search needs
 
+shl-reach : tie.Need-shl-reach
+shl-reach c = search needs
+
+reach-requires : tie.Need-reach-requires
+reach-requires c κs = search needs
+
+has-requires : tie.Need-has-requires
+has-requires c κs = search needs
+
 add-distances : tie.Need-add-distances
 add-distances c = search needs
 
 distances-requires : tie.Need-distances-requires
 distances-requires c κs = search needs
-
-array-read-if1 : tie.Need-array-read-if1
-array-read-if1 c = search needs
 
 add-flip : tie.Need-add-flip
 add-flip c = search needs
@@ -30,16 +39,23 @@ add-flip-2 c = search needs
 
 flip-requires : tie.Need-flip-requires
 flip-requires c κs =
-    let s = c .before .before .before .before .before .before in
+    let d = c .before .before in
+    let i = d .before .before in
+    let f = i .before in
+    let r = f .before in
+    let z = r .before .before in
+    let s = z .before in
     let a = s .args in
-    let place : a .head + 1 - 1 ≡ a .head = omega arith in (
+    let words : (j : ℕ) → Fits w64 (getD (z .zero-graph .result) j 0) = λ j. search needs in (
       ends-wide (a .n) (a .m) (a .tails .now) (a .heads .now) (s .pre .0),
       s .pre .1,
       s .pre .2,
-      c .before .before .before .distances .ensures,
+      d .distances .ensures,
       omega arith,
       omega arith,
-      rw place (c .before .before .if1 .taken),
+      reached-near (z .zero-graph .result) (λ j. words (j - 1) .fits) (a .tail) (s .pre .6) (distance-of (d .distances .result))
+          (rw (add-one (a .tail)) at (d .distances .ensures)) (r .reach .result) (r .reach .ensures) (a .head + 1) (omega arith) (omega arith)
+          (rw (add-one (a .head)) (sym (f .has .ensures) ∙ i .if1 .taken)),
       omega (arith, s .pre .0 .few),
       s .pre .3,
     )
@@ -51,8 +67,8 @@ returns : tie.Need-returns
 returns c =
     let y = c .before in
     let x = y .before .before in
-    let d = x .before .before .before .before in
-    let z = d .before .before in
+    let d = x .before .before .before in
+    let z = d .before .before .before .before .before .before in
     let s = z .before in
     let a = s .args in
     let p = s .pre in (
@@ -69,36 +85,27 @@ returns c =
       x .flip .ok .1 .0 .1,
     )
 
-shl-reach : tie.Need-shl-reach
-shl-reach c = search needs
-
-reach-requires : tie.Need-reach-requires
-reach-requires c κs = search needs
-
 raise-requires : tie.Need-raise-requires
 raise-requires c κs =
-    let s = c .before .before .before .before .before .before in
+    let s = c .before .before .before .before .before in
     λ k. omega (arith, s .pre .2 k)
 
 returns-2 : tie.Need-returns-2
 returns-2 c =
     let x = c .before .before in
-    let r = x .before in
-    let y = r .before .before in
-    let d = y .before in
-    let z = d .before .before in
+    let i = x .before in
+    let f = i .before in
+    let r = f .before in
+    let z = r .before .before in
     let s = z .before in
     let a = s .args in
-    let p = s .pre in
-    let place : suc (a .head) - 1 ≡ a .head = omega arith in (
+    let p = s .pre in (
       λ h cols rg later so-far.
-          let graph = z .zero-graph .ensures h cols (so-far .around) in
           record {
             deciding =
                 raised-out h rg (a .n) (a .m) (a .tails .now) (a .heads .now) (p .0 .size) (p .0 .few) cols (a .k) (p .4) (a .tail) (a .head) (p .5) (p .7)
-                (a .costs .now) (a .potential .now) (a .movable .now) (a .chosen .now) later (so-far .deciding) (z .zero-graph .result) graph
-                (r .reach .result) (r .reach .ensures) (distance-of (d .distances .result)) (rw (add-one (a .tail)) at (d .distances .ensures)) (p .6)
-                (p .8) (rw place (y .if1 .left)) (x .raise .result) (x .raise .ensures);
+                (a .costs .now) (a .potential .now) (a .movable .now) (a .chosen .now) later (so-far .deciding) (z .zero-graph .result)
+                (z .zero-graph .ensures h cols (so-far .around)) (r .reach .result) (r .reach .ensures) (sym (f .has .ensures) ∙ i .if1 .left) (x .raise .result) (x .raise .ensures);
             around = so-far .around;
           },
       raised-rise (r .reach .result) (a .potential .now) (x .raise .result) (x .raise .ok .1 .0 .1) (x .raise .ensures),
@@ -110,15 +117,15 @@ change-spec =
     tie.close
     (tie.spec
     zero-graph-requires
+    shl-reach
+    reach-requires
+    has-requires
     add-distances
     distances-requires
-    array-read-if1
     add-flip
     add-flip-2
     flip-requires
     neighbourhoods-requires
     returns
-    shl-reach
-    reach-requires
     raise-requires
     returns-2)

@@ -1,5 +1,6 @@
 -- `first::decide_all` meets its contract: after k turns the first k rows are decided. Assumes nothing.
 use mathlib.Core.Bool.{false}
+use mathlib.Core.Logic.{⊎-elim}
 use mathlib.Core.Path.{_≡_, refl, _∙_}
 use Prim.Native.Nat.{ℕ, _+_, _-_, _≤_}
 use native.Mathlib.Numerals.{add-one}
@@ -11,7 +12,9 @@ use Rattle.dicuts.specs.Shores.{Ranged}
 use Rattle.potentials.specs.Repair.{Repaired}
 use Rattle.order.specs.Ranked.{ranked}
 use Rattle.columns.specs.Columns.{at, flagged, Columns, Neighbourhoods}
+use Rattle.planner.proofs.Rows.{ends-wide}
 use Rattle.first.specs.Standing.{Movable, Standing}
+use Rattle.first.proofs.Steps.{gap-none, stays}
 use Rattle.first.proofs.Loop.{movable-start, movable-next, first-start, first-end}
 use Rattle.first.proofs.decide_all.Statement.{statement}
 use Rattle.first.proofs.decide_all.Tie as tie
@@ -44,12 +47,78 @@ loop-holds c =
           },
     )
 
-decide-row-requires : tie.Need-decide-row-requires Inv-loop μ-loop
-decide-row-requires c κs =
-    let l = c .before .before .before .before .before .before in
+element-copy-out-place : tie.Need-element-copy-out-place Inv-loop μ-loop
+element-copy-out-place c = search needs
+
+place-requires : tie.Need-place-requires Inv-loop μ-loop
+place-requires c κs =
+    let l = c .before .before in
+    let s = l .before .before .before .before in
+    let a = s .args in
+    let e = ends-wide (a .n) (a .m) (a .tails .now) (a .heads .now) (s .pre .0) in
+    (e .tail-low (l .loop .k) (omega arith), e .tail-high (l .loop .k) (omega arith))
+
+element-copy-out-place-2 : tie.Need-element-copy-out-place-2 Inv-loop μ-loop
+element-copy-out-place-2 c = search needs
+
+place-requires-2 : tie.Need-place-requires-2 Inv-loop μ-loop
+place-requires-2 c κs =
+    let l = c .before .before .before .before in
+    let s = l .before .before .before .before in
+    let a = s .args in
+    let e = ends-wide (a .n) (a .m) (a .tails .now) (a .heads .now) (s .pre .0) in
+    (e .head-low (l .loop .k) (omega arith), e .head-high (l .loop .k) (omega arith))
+
+element-copy-out-if1 : tie.Need-element-copy-out-if1 Inv-loop μ-loop
+element-copy-out-if1 c = search needs
+
+mul-if1 : tie.Need-mul-if1 Inv-loop μ-loop
+mul-if1 c = search needs
+
+element-copy-out-if1-2 : tie.Need-element-copy-out-if1-2 Inv-loop μ-loop
+element-copy-out-if1-2 c = search needs
+
+mul-if1-2 : tie.Need-mul-if1-2 Inv-loop μ-loop
+mul-if1-2 c = search needs
+
+element-copy-out-if1-3 : tie.Need-element-copy-out-if1-3 Inv-loop μ-loop
+element-copy-out-if1-3 c = search needs
+
+mul-if1-3 : tie.Need-mul-if1-3 Inv-loop μ-loop
+mul-if1-3 c = search needs
+
+element-copy-out-if1-4 : tie.Need-element-copy-out-if1-4 Inv-loop μ-loop
+element-copy-out-if1-4 c = search needs
+
+add-if1 : tie.Need-add-if1 Inv-loop μ-loop
+add-if1 c =
+    let u = c .before .before .before .before .before .before in
+    let l = u .before .before .before in
     let s = l .before .before .before .before in
     let v = l .loop .inv in
-    (s .pre .0, s .pre .1, λ j. omega (arith, v .4 j, s .pre .2 j, s .pre .0 .few), v .3, omega arith)
+    record { fits = omega (arith, s .pre .1 (l .loop .k), s .pre .2 (u .place .result), v .4 (u .place .result), s .pre .0 .few) }
+
+change-requires : tie.Need-change-requires Inv-loop μ-loop
+change-requires c κs =
+    let i = c .before .before .before .before .before in
+    let w = i .before .before .before .before .before in
+    let u = w .before .before in
+    let l = u .before .before .before in
+    let s = l .before .before .before .before in
+    let a = s .args in
+    let v = l .loop .inv in (
+      s .pre .0,
+      s .pre .1,
+      λ j. omega (arith, v .4 j, s .pre .2 j, s .pre .0 .few),
+      v .3,
+      omega arith,
+      u .place .ensures .0,
+      u .place .ensures .1,
+      w .place2 .ensures .0,
+      w .place2 .ensures .1,
+      gap-none (getD (l .loop .state .chosen) (l .loop .k) false) (getD (l .loop .state .potential) (w .place2 .result) 0)
+          (getD (l .loop .state .potential) (u .place .result) 0 + getD (a .costs .now) (l .loop .k) 0) (i .if1 .taken),
+    )
 
 array-write-movable : tie.Need-array-write-movable Inv-loop μ-loop
 array-write-movable c = search needs
@@ -62,16 +131,43 @@ loop-less c = search needs
 
 loop-again : tie.Need-loop-again Inv-loop μ-loop
 loop-again c =
-    let l = c .before .before .before .before .before .before .before in
+    let w = c .before .before .before .before .before in
+    let u = w .before .before in
+    let l = u .before .before .before in
+    let s = l .before .before .before .before in
+    let a = s .args in
     let v = l .loop .inv in
-    let d = c .decide-row .ensures in (
+    let size = length-set (l .loop .movable) (l .loop .k) false ∙ v .1 in
+    let later = movable-next (l .loop .k) (l .loop .movable) (omega (arith, v .1)) (v .2) in
+    ⊎-elim
+    (λ t.
+    let d = t .6 .ensures in
+    rw (t .7) (
       omega arith,
-      length-set (l .loop .movable) (l .loop .k) false ∙ v .1,
-      movable-next (l .loop .k) (l .loop .movable) (omega (arith, v .1)) (v .2),
+      size,
+      later,
       d .2,
       λ j. omega (arith, d .1 j, v .4 j),
       λ h cols rg is done near. rw (add-one (l .loop .k)) (d .0 h cols rg (v .2) (v .5 h cols rg is done near)),
-    )
+    ))
+    (λ t.
+    rw (t .1) (
+      omega arith,
+      size,
+      later,
+      v .3,
+      λ j. omega (arith, v .4 j),
+      λ h cols rg is done near.
+          let so-far = v .5 h cols rg is done near in
+          rw (add-one (l .loop .k)) (record {
+            deciding =
+                stays h rg (a .n) (a .m) (a .tails .now) (a .heads .now) (s .pre .0 .size) (s .pre .0 .few) cols (l .loop .k) (omega arith)
+                (u .place .result) (w .place2 .result) (u .place .ensures .0) (w .place2 .ensures .0) (a .costs .now) (l .loop .state .potential)
+                (l .loop .movable) (l .loop .state .chosen) (v .2) (so-far .deciding) (t .0 .left);
+            around = so-far .around;
+          }),
+    ))
+    (c .if1 .came)
 
 returns : tie.Need-returns Inv-loop μ-loop
 returns c =
@@ -90,7 +186,19 @@ decide-all-spec =
     Inv-loop
     μ-loop
     loop-holds
-    decide-row-requires
+    element-copy-out-place
+    place-requires
+    element-copy-out-place-2
+    place-requires-2
+    element-copy-out-if1
+    mul-if1
+    element-copy-out-if1-2
+    mul-if1-2
+    element-copy-out-if1-3
+    mul-if1-3
+    element-copy-out-if1-4
+    add-if1
+    change-requires
     array-write-movable
     add-k
     loop-less
