@@ -1,7 +1,7 @@
 //! A choice of rows and the arcs it gives: rows forward and chosen rows backward.
 
 use crate::hall::{Hall, Refusal};
-use crate::sets::{holds, reached, reached_short_of, Arcs};
+use crate::sets::{holds, reached_short_of, Arcs};
 
 pub struct Choice<'h> {
     pub hall: &'h Hall,
@@ -41,7 +41,7 @@ impl<'h> Choice<'h> {
         for i in dearest_first {
             choice.close(i);
             let row = hall.rows[i];
-            if reached_short_of(&choice.arcs, row.head, row.tail).is_some() {
+            if reached_short_of(&choice.arcs, row.head, 1 << row.tail).is_some() {
                 choice.open(i);
             }
         }
@@ -83,8 +83,9 @@ impl<'h> Choice<'h> {
         }
     }
 
-    /// The set reached from the lowest junction that does not reach all.
+    /// The set reached from the lowest junction that does not reach all; a search that meets a lower one need not go on.
     pub fn missed(&self) -> Option<u64> {
-        (0..self.hall.n).map(|j| reached(&self.arcs, 1 << j)).find(|&set| set != self.hall.all())
+        let found = |j| reached_short_of(&self.arcs, j, (1 << j) - 1);
+        (0..self.hall.n).filter_map(found).find(|&set| set != self.hall.all())
     }
 }

@@ -37,12 +37,12 @@ pub fn reached(arcs: &Arcs, start: u64) -> u64 {
     seen
 }
 
-/// The set reached from `start`, or `None` as soon as it holds `target`.
-pub fn reached_short_of(arcs: &Arcs, start: usize, target: usize) -> Option<u64> {
-    let (mut seen, mut layer) = (1 << start, 1 << start);
-    while layer != 0 && !holds(seen, target) {
+/// The set reached from `start`, or `None` as soon as it holds one of the targets.
+pub fn reached_short_of(arcs: &Arcs, start: usize, targets: u64) -> Option<u64> {
+    let (mut seen, mut layer): (u64, u64) = (1 << start, 1 << start);
+    while layer != 0 && seen & targets == 0 {
         layer = next_layer(arcs, layer) & !seen;
         seen |= layer;
     }
-    (!holds(seen, target)).then_some(seen)
+    (seen & targets == 0).then_some(seen)
 }
