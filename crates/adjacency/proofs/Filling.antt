@@ -2,7 +2,7 @@
 use mathlib.Core.Path.{_≡_, refl, sym, ap, _∙_}
 use mathlib.Core.Bool.{Bool, true, false, _&&_, _||_, or-assoc, or-false}
 use mathlib.Core.List.{List}
-use Prim.Native.Nat.{ℕ, zero, suc, _+_, _-_, _*_, _%_, _^_, _≤_, _<_}
+use Prim.Native.Nat.{ℕ, suc, _+_, _-_, _*_, _%_, _^_, _≤_, _<_}
 use native.Mathlib.Numerals.{add-one}
 use native.Mathlib.Omega.{arith}
 use lib.Bits.{bitOr, or-lt}
@@ -14,6 +14,7 @@ use borrow.Author.Tests.{eqb-true, eqb-false, eq-eqb, ne-eqb}
 use Rattle.laws.specs.Finite.{any-below}
 use Rattle.laws.proofs.Booleans.{by-bool}
 use Rattle.laws.proofs.Agree.{any-ext}
+use Rattle.laws.proofs.Lists.{replicate-at}
 use Rattle.junctions.specs.Sets.{holds, gather}
 use Rattle.junctions.proofs.Bits.{one-shl}
 use Rattle.junctions.proofs.Sets.{or-holds, one-holds, none-holds, sets-ext, gather-lt, gather-holds}
@@ -21,6 +22,7 @@ use Rattle.junctions.proofs.Single.{one-lt}
 use Rattle.hall.specs.Hall.{Hall, row}
 use Rattle.dicuts.specs.Arcs.{arc, arcs}
 use Rattle.columns.specs.Columns.{at, flagged, Ends, Columns, Arcs}
+use Rattle.columns.proofs.Places.{place-tail, place-head}
 
 -- the row at place k leads from x to y: forward, or backward if it is flagged
 unfoldable pub leads : (tails heads : List ℕ) → (flags : List Bool) → (x y k : ℕ) → Bool
@@ -117,19 +119,14 @@ module _ (n i : ℕ) (ts hs : List ℕ) (fs : List Bool) (sets : List ℕ) (so-f
             ∙ or-assoc (any-below i (leads ts hs fs x y)) (eqb (getD ts i 0) x && eqb (getD hs i 0) y) (eqb (getD hs i 0) x && eqb (getD ts i 0) y));
       }
 
-zeros-at : (k i : ℕ) → getD {A = ℕ} (replicate k 0) i 0 ≡ 0
-zeros-at zero i = refl
-zeros-at (suc k) zero = refl
-zeros-at (suc k) (suc i) = zeros-at k i
-
 -- no row
 pub fill-none : (n : ℕ) (ts hs : List ℕ) (fs : List Bool) → Filling n 0 ts hs fs (replicate 64 0)
 unfolding any-below
 fill-none n ts hs fs =
     record {
       size = refl;
-      low = λ x. omega (arith, zeros-at 64 (x - 1), pow-pos n);
-      holding = λ x y l k. ap (λ (s : ℕ). holds s y) (zeros-at 64 (x - 1)) ∙ none-holds y;
+      low = λ x. omega (arith, replicate-at {A = ℕ} 64 (x - 1) 0, pow-pos n);
+      holding = λ x y l k. ap (λ (s : ℕ). holds s y) (replicate-at {A = ℕ} 64 (x - 1) 0) ∙ none-holds y;
     }
 
 -- all rows
@@ -146,6 +143,6 @@ fill-arcs n m ts hs fs sets full h cols x l k =
         rw (cols .rows)
         (any-ext m _ _ (λ j less.
         let place : suc j - 1 ≡ j = omega arith in
-        let tail : getD ts j 0 ≡ row h (suc j) .from = rw place at (cols .tail (suc j) (omega arith) (omega arith)) in
-        let head : getD hs j 0 ≡ row h (suc j) .to = rw place at (cols .head (suc j) (omega arith) (omega arith)) in
+        let tail : getD ts j 0 ≡ row h (suc j) .from = place-tail h n m ts hs cols j less in
+        let head : getD hs j 0 ≡ row h (suc j) .to = place-head h n m ts hs cols j less in
         rw (tail, head, place)))

@@ -15,16 +15,11 @@ use Rattle.laws.proofs.Finite.{sum-ext, sum-add, sum-zero}
 use Rattle.hall.specs.Hall.{Hall, Row, row, row-of, count, enters, is-choice, member}
 use Rattle.hall.specs.Plan.{Cut, Beside, load, loads-fit, weight-sum, total}
 use Rattle.dicuts.specs.Shores.{Ranged, Linked, Tight, once, cover}
-use Rattle.dicuts.proofs.Choices.{over-members}
+use Rattle.dicuts.proofs.Choices.{over-members, total-over}
 use Rattle.laminar.specs.Families.{shores}
 use Rattle.laminar.proofs.Few.{few-cuts}
 use Rattle.potentials.specs.Potential.{Under, Paid, cost}
-use Rattle.potentials.specs.Repair.{Repaired}
-use Rattle.duality.proofs.Over.{total-over}
-use Rattle.certificates.specs.Cuts.{peak, cuts}
 use Rattle.certificates.specs.Certificate.{Certificate}
-use Rattle.certificates.proofs.Classes.{peak-high}
-use Rattle.certificates.proofs.Certificate.{certificate}
 
 entered-one : (m s : ℕ) (a b : Bool) → m * s + cond a (cond b m 0) 0 ≡ m * (s + cond b (one-if a) 0)
 unfolding one-if

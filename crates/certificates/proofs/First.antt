@@ -12,7 +12,8 @@ use Rattle.hall.specs.Plan.{First, Cut, Beside, total}
 use Rattle.dicuts.specs.Shores.{Ranged, Linked, once}
 use Rattle.joining.proofs.Joins.{joining-joins}
 use Rattle.potentials.specs.Repair.{Repaired}
-use Rattle.potentials.proofs.Same.{cover-same, repaired-same}
+use Rattle.dicuts.proofs.Same.{cover-same}
+use Rattle.potentials.proofs.Same.{repaired-same}
 use Rattle.order.specs.Precedes.{Precedes, by-total, by-length, by-dictionary}
 use Rattle.order.proofs.Before.{before-why}
 use Rattle.choicelists.specs.Listed.{listed}

@@ -9,7 +9,7 @@ use native.Mathlib.Omega.{arith}
 use lib.Dec.{eqb, leb, ltb}
 use borrow.Author.Tests.{ltb-true, ltb-false, le-leb, eqb-true}
 use Rattle.laws.specs.Finite.{sum-below}
-use Rattle.laws.proofs.Booleans.{by-bool, clash, and-i, or-cases}
+use Rattle.laws.proofs.Booleans.{by-bool, clash, and-i, or-cases, cond-zero}
 use Rattle.laws.proofs.Counts.{sum-head}
 use Rattle.laws.proofs.Finite.{sum-ext}
 use Rattle.junctions.specs.Sets.{holds}
@@ -32,11 +32,6 @@ pub level-weigh : (ks : List Cut) (j : ℕ) → level-sum j ks ≡ weigh (λ s. 
 unfolding level-sum weigh
 level-weigh [] j = refl
 level-weigh (c ∷ cs) j = ap (λ (m : ℕ). cond (holds (c .shore) j) (c .weight) 0 + m) (level-weigh cs j)
-
--- a weight of 0 adds nothing
-cond-zero : (b : Bool) (m : ℕ) → m ≡ 0 → cond b m 0 ≡ 0
-cond-zero true m e = e
-cond-zero false m e = refl
 
 module _ (w : ℕ → ℕ) where
   pub listing-weigh : (t : ℕ → Bool) (k s : ℕ) → weigh t (listing k s w) ≡ sum-below k (λ i. cond (t (s + i)) (w (s + i)) 0)

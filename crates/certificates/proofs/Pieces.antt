@@ -5,15 +5,16 @@ use Prim.Native.Nat.{ℕ, zero, suc, _+_, _-_, _^_, _≤_, _<_}
 use native.Mathlib.Omega.{arith}
 use lib.Bits.{bitAnd, and-le-l}
 use lib.Pow.{pow-lt}
-use borrow.Author.Tests.{eqb-true, eq-eqb, not-true}
+use borrow.Author.Tests.{not-true}
 use Rattle.laws.specs.Finite.{any-below}
 use Rattle.laws.proofs.Booleans.{by-bool, clash, and-l, and-r, and-i, not-true-false, not-false-true, bool-ext}
 use Rattle.laws.proofs.Finite.{any-found, any-intro, decide-below}
 use Rattle.junctions.specs.Sets.{holds, gather, Within}
 use Rattle.junctions.proofs.Bounds.{junction-le}
-use Rattle.junctions.proofs.Sets.{and-holds, one-holds, gather-holds, gather-lt, sets-ext}
+use Rattle.junctions.proofs.Sets.{and-holds, gather-holds, gather-lt, sets-ext}
+use Rattle.junctions.proofs.Single.{one-within}
 use Rattle.digraph.specs.Reach.{Closed, Reach}
-use Rattle.digraph.proofs.Closure.{closure-reach, closure-lt}
+use Rattle.digraph.proofs.Closure.{closure-reach, closure-lt, start-reached}
 use Rattle.certificates.specs.Pieces.{Mutual, inside, piece}
 
 inside-holds : (w : ℕ) (out : ℕ → ℕ) (a b : ℕ) → holds w b ≡ true → holds (out a) b ≡ true → holds (inside w out a) b ≡ true
@@ -28,10 +29,6 @@ inside-arc : (w : ℕ) (out : ℕ → ℕ) (a b : ℕ) → holds (inside w out a
 unfolding inside
 inside-arc w out a b t = and-r (holds w b) (holds (out a) b) (sym (and-holds w (out a) b) ∙ t)
 
-one-within : (a t : ℕ) → 1 ≤ a → holds t a ≡ true → Within (2 ^ (a - 1)) t
-unfolding Within
-one-within a t l h j m e = rw (eqb-true j a (sym (one-holds j a m l) ∙ e)) h
-
 module _ (n : ℕ) (out : ℕ → ℕ) (w : ℕ) (low : w < 2 ^ n) where
   piece-reach : (a : ℕ) → 1 ≤ a → a ≤ n → Reach n (inside w out) (2 ^ (a - 1)) (piece n out w a)
   unfolding piece inside
@@ -42,8 +39,7 @@ module _ (n : ℕ) (out : ℕ → ℕ) (w : ℕ) (low : w < 2 ^ n) where
   piece-lt a l m = closure-lt n (inside w out) (2 ^ (a - 1)) (pow-lt (omega arith))
 
   pub piece-self : (a : ℕ) → 1 ≤ a → a ≤ n → holds (piece n out w a) a ≡ true
-  unfolding Within
-  piece-self a l m = piece-reach a l m .contains a l (one-holds a a l l ∙ eq-eqb a a refl)
+  piece-self a l m = start-reached n (inside w out) a (piece n out w a) l (piece-reach a l m)
 
   -- arcs inside w do not lead out of a piece
   pub piece-step : (a : ℕ) → 1 ≤ a → a ≤ n → (j k : ℕ) → 1 ≤ j → j ≤ n → 1 ≤ k → holds (piece n out w a) j ≡ true → holds w k ≡ true → holds (out j) k ≡ true → holds (piece n out w a) k ≡ true
@@ -69,7 +65,7 @@ module _ (n : ℕ) (out : ℕ → ℕ) (w : ℕ) (low : w < 2 ^ n) where
 
       most : (i : ℕ) → 1 ≤ i → holds (piece n out w a) i ≡ true → holds s i ≡ true
       most = piece-reach a l (junction-le n w a low wa) .least s
-          (one-within a s l (at a l (junction-le n w a low wa) ∙ and-i (holds w a) (t a) wa ta))
+          (one-within s a l (at a l (junction-le n w a low wa) ∙ and-i (holds w a) (t a) wa ta))
           (λ i li mi hi k lk e.
           let wk = inside-in w out i k e in
           let mk = junction-le n w k low wk in

@@ -16,8 +16,9 @@ use Rattle.hall.specs.Hall.{Hall, count, ascends-from, is-choice, member}
 use Rattle.hall.specs.Plan.{earlier}
 use Rattle.dicuts.proofs.Choices.{ascends-low, ascends-high, ascends-rest}
 use Rattle.order.proofs.Dictionary.{earlier-cases, earlier-head, earlier-tail}
+use Rattle.order.proofs.Least.{ascends-cons}
 use Rattle.choicelists.specs.Listed.{listed, Leads}
-use Rattle.choicelists.proofs.Listed.{ascends-cons, ascends-members, member-head, member-under, members-after, listed-choice, listed-member}
+use Rattle.choicelists.proofs.Listed.{ascends-members, member-head, member-under, members-after, listed-choice, listed-member}
 use Rattle.choicelists.proofs.Totals.{listed-count}
 
 -- the numbers 1 to m alone decide
@@ -97,7 +98,7 @@ module _ (l : ℕ) where
       earlier-tail x xs y ys k (up (leads-after x xs ys (ascends-rest a l x xs p) r v)))
       (⊎-elim (λ (k : x < y). earlier-head x xs y ys k)
       (λ (k : y < x).
-      let reach = ascends-members l x (x ∷ xs) (w .at) (ascends-cons l x x xs (omega arith) (ascends-high a l x xs p) (ascends-rest a l x xs p)) (w .has) in
+      let reach = ascends-members l x (x ∷ xs) (w .at) (ascends-cons x l x xs (omega arith) (ascends-high a l x xs p) (ascends-rest a l x xs p)) (w .has) in
       clash (w .same y (omega (arith, ascends-low b l y ys q)) (omega (arith, reach .0)) ∙ member-head l y ys) (member-under l a x xs p y k)))
       (compare-numbers x y)
 

@@ -1,31 +1,21 @@
 -- Sets of rows and choices are the same thing: each set is listed as a choice with its rows as members, and a choice is the list of its members. Assumes nothing.
 use mathlib.Core.Path.{_≡_, refl, sym, ap, _∙_}
-use mathlib.Core.Bool.{Bool, true, false, _&&_}
+use mathlib.Core.Bool.{Bool, true, false}
 use mathlib.Core.List.{List, [], _∷_}
 use mathlib.Core.Logic.{⊎-elim}
 use Prim.Native.Nat.{ℕ, zero, suc, _+_, _≤_, _<_}
 use native.Mathlib.Omega.{arith}
-use lib.Dec.{eqb, leb}
-use borrow.Author.Tests.{le-leb, eq-eqb, eqb-true, eqb-false}
-use Rattle.laws.proofs.Booleans.{by-bool, clash, and-i, or-cases, bool-ext}
+use lib.Dec.{eqb}
+use borrow.Author.Tests.{eq-eqb, eqb-true, eqb-false}
+use Rattle.laws.proofs.Booleans.{by-bool, clash, or-cases, bool-ext}
 use Rattle.laws.proofs.Numbers.{compare-numbers}
 use Rattle.hall.specs.Hall.{Hall, count, ascends-from, is-choice, member}
 use Rattle.dicuts.proofs.Choices.{ascends-low, ascends-high, ascends-rest, ascends-skips}
+use Rattle.order.proofs.Least.{ascends-cons, ascends-earlier}
 use Rattle.choicelists.specs.Listed.{passing, listed}
 
 -- members of an ascending list
 module _ (l : ℕ) where
-  pub ascends-cons : (a i : ℕ) (is : List ℕ) → a ≤ i → i ≤ l → ascends-from (suc i) l is ≡ true → ascends-from a l (i ∷ is) ≡ true
-  unfolding ascends-from
-  ascends-cons a i is low high e =
-      and-i (leb a i && leb i l) (ascends-from (suc i) l is) (and-i (leb a i) (leb i l) (le-leb a i low) (le-leb i l high)) e
-
-  pub ascends-earlier : (a b : ℕ) (c : List ℕ) → a ≤ b → ascends-from b l c ≡ true → ascends-from a l c ≡ true
-  unfolding ascends-from
-  ascends-earlier a b [] h e = refl
-  ascends-earlier a b (i ∷ is) h e =
-      ascends-cons a i is (omega (arith, ascends-low b l i is e)) (ascends-high b l i is e) (ascends-rest b l i is e)
-
   pub ascends-members : (a : ℕ) (c : List ℕ) (v : ℕ) → ascends-from a l c ≡ true → member v c ≡ true → (a ≤ v) × (v ≤ l)
   unfolding member
   ascends-members a [] v e t = clash t refl
@@ -41,7 +31,7 @@ module _ (l : ℕ) where
   member-head x xs = rw (eq-eqb x x refl)
 
   pub member-under : (a y : ℕ) (ys : List ℕ) → ascends-from a l (y ∷ ys) ≡ true → (x : ℕ) → x < y → member x (y ∷ ys) ≡ false
-  member-under a y ys e x h = ascends-skips y l (y ∷ ys) x (ascends-cons y y ys (omega arith) (ascends-high a l y ys e) (ascends-rest a l y ys e)) h
+  member-under a y ys e x h = ascends-skips y l (y ∷ ys) x (ascends-cons y l y ys (omega arith) (ascends-high a l y ys e) (ascends-rest a l y ys e)) h
 
   -- with the same first number, what holds the same numbers holds the same after it
   pub members-after : (x : ℕ) (xs ys : List ℕ) → ascends-from (suc x) l xs ≡ true → ascends-from (suc x) l ys ≡ true → (i : ℕ)
@@ -76,8 +66,8 @@ unfolding passing ascends-from
 passing-ascends zero a l F h = refl
 passing-ascends (suc k) a l F h =
     let rest = passing-ascends k (suc a) l F (omega arith) in
-    by-bool (F a) (λ e. rw e (ascends-cons l a a (passing k (suc a) F) (omega arith) (omega arith) rest))
-    (λ e. rw e (ascends-earlier l a (suc a) (passing k (suc a) F) (omega arith) rest))
+    by-bool (F a) (λ e. rw e (ascends-cons a l a (passing k (suc a) F) (omega arith) (omega arith) rest))
+    (λ e. rw e (ascends-earlier a (suc a) l (passing k (suc a) F) (omega arith) rest))
 
 pub passing-member : (left a : ℕ) (F : ℕ → Bool) (i : ℕ) → a ≤ i → i < a + left → member i (passing left a F) ≡ F i
 unfolding passing member
@@ -117,9 +107,3 @@ module _ (h : Hall) where
   -- a choice is the list of its members
   pub listed-members : (c : List ℕ) → is-choice h c ≡ true → listed h (λ i. member i c) ≡ c
   listed-members c e = choices-ext (listed h (λ i. member i c)) c (listed-choice (λ i. member i c)) e (listed-member (λ i. member i c))
-
-  -- the rows alone decide
-  pub listed-ext : (F G : ℕ → Bool) → ((i : ℕ) → 1 ≤ i → i ≤ count h → F i ≡ G i) → listed h F ≡ listed h G
-  listed-ext F G f =
-      choices-ext (listed h F) (listed h G) (listed-choice F) (listed-choice G)
-      (λ i low high. listed-member F i low high ∙ f i low high ∙ sym (listed-member G i low high))

@@ -10,14 +10,9 @@ use Rattle.laws.proofs.Finite.{sum-ext}
 use Rattle.hall.specs.Hall.{Hall, row, count, is-choice, member, enters, entering}
 use Rattle.hall.specs.Plan.{total}
 use Rattle.dicuts.specs.Shores.{cover, once}
-use Rattle.dicuts.proofs.Choices.{over, over-members, entering-cover}
+use Rattle.dicuts.proofs.Choices.{over, over-members, total-over, entering-cover}
 use Rattle.choicelists.specs.Listed.{listed}
 use Rattle.choicelists.proofs.Listed.{listed-choice, listed-member}
-
-pub total-over : (h : Hall) (c : List ℕ) → total h c ≡ over (λ i. row h i .price) c
-unfolding total over
-total-over h [] = refl
-total-over h (i ∷ is) = omega (arith, total-over h is)
 
 pub length-over : (c : List ℕ) → length c ≡ over (λ i. 1) c
 unfolding over

@@ -1,12 +1,11 @@
 -- A hall is ranged exactly where its columns have their ends among its junctions. Assumes nothing.
-use mathlib.Core.Path.{_≡_}
 use mathlib.Core.List.{List}
-use Prim.Native.Nat.{ℕ, suc, _-_, _≤_, _<_}
+use Prim.Native.Nat.{ℕ, suc, _-_, _≤_}
 use native.Mathlib.Omega.{arith}
-use lib.ListN.{getD}
-use Rattle.hall.specs.Hall.{Hall, row}
+use Rattle.hall.specs.Hall.{Hall}
 use Rattle.dicuts.specs.Shores.{Ranged}
 use Rattle.columns.specs.Columns.{Ends, Columns}
+use Rattle.columns.proofs.Places.{place-tail, place-head}
 
 pub columns-ranged : (h : Hall) (n m : ℕ) (ts hs : List ℕ) → 1 ≤ n → Ends n m ts hs → Columns h n m ts hs → Ranged h
 columns-ranged h n m ts hs some ends cols =
@@ -23,14 +22,8 @@ ranged-ends h n m ts hs size few rg cols =
     record {
       size = size;
       few = few;
-      tail-low = λ k less. omega (arith, tail k less, rg .from-low (suc k) (omega arith) (omega (arith, cols .rows)));
-      tail-high = λ k less. omega (arith, tail k less, cols .junctions, rg .from-high (suc k) (omega arith) (omega (arith, cols .rows)));
-      head-low = λ k less. omega (arith, head k less, rg .to-low (suc k) (omega arith) (omega (arith, cols .rows)));
-      head-high = λ k less. omega (arith, head k less, cols .junctions, rg .to-high (suc k) (omega arith) (omega (arith, cols .rows)));
+      tail-low = λ k less. omega (arith, place-tail h n m ts hs cols k less, rg .from-low (suc k) (omega arith) (omega (arith, cols .rows)));
+      tail-high = λ k less. omega (arith, place-tail h n m ts hs cols k less, cols .junctions, rg .from-high (suc k) (omega arith) (omega (arith, cols .rows)));
+      head-low = λ k less. omega (arith, place-head h n m ts hs cols k less, rg .to-low (suc k) (omega arith) (omega (arith, cols .rows)));
+      head-high = λ k less. omega (arith, place-head h n m ts hs cols k less, cols .junctions, rg .to-high (suc k) (omega arith) (omega (arith, cols .rows)));
     }
-  where
-    tail : (k : ℕ) → k < m → getD ts k 0 ≡ row h (suc k) .from
-    tail k less = let place : suc k - 1 ≡ k = omega arith in rw place at (cols .tail (suc k) (omega arith) (omega arith))
-
-    head : (k : ℕ) → k < m → getD hs k 0 ≡ row h (suc k) .to
-    head k less = let place : suc k - 1 ≡ k = omega arith in rw place at (cols .head (suc k) (omega arith) (omega arith))

@@ -1,36 +1,27 @@
 -- Adjacencies with the same arcs from junctions 1 to n have the same pieces, and their shores weigh the same. Assumes nothing.
 use mathlib.Core.Path.{_≡_, refl, sym, ap, ap₂, _∙_}
 use mathlib.Core.Bool.{Bool, _&&_, _||_, not, cond}
-use Prim.Native.Nat.{ℕ, zero, suc, _+_, _-_, _^_, _≤_, _<_}
+use Prim.Native.Nat.{ℕ, zero, suc, _-_, _^_, _≤_}
 use native.Mathlib.Omega.{arith}
 use lib.Bits.{bitAnd}
 use Rattle.laws.specs.Finite.{any-below, all-below}
+use Rattle.laws.proofs.Agree.{any-ext}
 use Rattle.laws.proofs.Finite.{sum-ext}
-use Rattle.junctions.specs.Sets.{holds, gather}
+use Rattle.junctions.specs.Sets.{holds}
+use Rattle.junctions.proofs.Gather.{gather-ext}
 use Rattle.digraph.specs.Closure.{arc-from, widen, ball, closure}
 use Rattle.certificates.specs.Pieces.{Mutual, inside, piece, leads, over-pieces}
 use Rattle.certificates.specs.Cuts.{outside, upper}
 use Rattle.cuts.specs.Listed.{alone}
 use Rattle.cuts.specs.Shores.{components-weigh, classes-weigh, levels-weigh}
 
-pub gather-alike : (n : ℕ) (p q : ℕ → Bool) → ((j : ℕ) → 1 ≤ j → j ≤ n → p j ≡ q j) → gather n p ≡ gather n q
-unfolding gather
-gather-alike zero p q same = refl
-gather-alike (suc n) p q same =
-    ap₂ _+_ (gather-alike n p q (λ j l m. same j l (omega arith))) (ap (λ (b : Bool). cond b (2 ^ n) 0) (same (suc n) (omega arith) (omega arith)))
-
-any-alike : (n : ℕ) (p q : ℕ → Bool) → ((k : ℕ) → k < n → p k ≡ q k) → any-below n p ≡ any-below n q
-unfolding any-below
-any-alike zero p q same = refl
-any-alike (suc n) p q same = ap₂ _||_ (any-alike n p q (λ k l. same k (omega arith))) (same n (omega arith))
-
 module _ (n : ℕ) (out to : ℕ → ℕ) (same : (j : ℕ) → 1 ≤ j → j ≤ n → out j ≡ to j) where
   widen-alike : (s t : ℕ) → s ≡ t → widen n out s ≡ widen n to t
   unfolding widen arc-from
   widen-alike s t e =
-      gather-alike n (λ y. holds s y || any-below n (λ k. holds s (suc k) && holds (out (suc k)) y)) (λ y. holds t y || any-below n (λ k. holds t (suc k) && holds (to (suc k)) y))
+      gather-ext n (λ y. holds s y || any-below n (λ k. holds s (suc k) && holds (out (suc k)) y)) (λ y. holds t y || any-below n (λ k. holds t (suc k) && holds (to (suc k)) y))
       (λ y l m. ap₂ _||_ (ap (λ (a : ℕ). holds a y) e)
-      (any-alike n (λ k. holds s (suc k) && holds (out (suc k)) y) (λ k. holds t (suc k) && holds (to (suc k)) y)
+      (any-ext n (λ k. holds s (suc k) && holds (out (suc k)) y) (λ k. holds t (suc k) && holds (to (suc k)) y)
       (λ k b. ap₂ (λ (a : ℕ) (o : ℕ). holds a (suc k) && holds o y) e (same (suc k) (omega arith) (omega arith)))))
 
   ball-alike : (start k : ℕ) → ball n out start k ≡ ball n to start k

@@ -8,6 +8,7 @@ use lib.IntN.{ℤ}
 use lib.ListN.{length}
 use Rattle.laws.specs.Finite.{sum-below, one-if}
 use Rattle.junctions.specs.Sets.{holds}
+use Rattle.junctions.proofs.Gather.{gather-ext}
 use Rattle.digraph.specs.Adjacency.{out-of}
 use Rattle.hall.specs.Hall.{Hall}
 use Rattle.hall.specs.Plan.{Cut}
@@ -24,7 +25,7 @@ use Rattle.cuts.specs.Shores.{components-weigh, classes-weigh, levels-we
 use Rattle.cuts.specs.Thresholds.{mates-by, Under}
 use Rattle.cuts.specs.Beside.{Beside-rows, highest}
 use Rattle.cuts.specs.Levels.{Near, Levelled}
-use Rattle.cuts.proofs.Alike.{gather-alike, levels-alike, mutual-alike}
+use Rattle.cuts.proofs.Alike.{levels-alike, mutual-alike}
 use Rattle.cuts.proofs.Certified.{weights-room}
 use Rattle.cuts.proofs.Levelling.{certificate-near}
 use Rattle.cuts.proofs.Listing.{listed-listing}
@@ -56,7 +57,7 @@ module _ (h : Hall) (F : ℕ → Bool) (n : ℕ) (links-at around-at potential m
   mates-same j l m =
       mates-are j l m
       ∙ rw n-is
-      (gather-alike (h .n) (λ c. holds (out-of around-at j) c || holds (out-of around-at c) j) (λ c. holds (around h (once F) j) c || holds (around h (once F) c) j)
+      (gather-ext (h .n) (λ c. holds (out-of around-at j) c || holds (out-of around-at c) j) (λ c. holds (around h (once F) j) c || holds (around h (once F) c) j)
       (λ c lc mc. ap₂ _||_ (ap (λ (s : ℕ). holds s c) (b .around-are j l (omega (arith, n-is)))) (ap (λ (s : ℕ). holds s j) (b .around-are c lc mc))))
 
   pub beside-links : Mutual n (out-of links-at)

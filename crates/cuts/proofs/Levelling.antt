@@ -1,5 +1,5 @@
 -- Sums of weights as sums over places, differences in 32 bits, and levels place by place. Assumes nothing.
-use mathlib.Core.Path.{_≡_, refl, sym, ap, ap₂, subst, _∙_}
+use mathlib.Core.Path.{_≡_, refl, sym, ap, ap₂, _∙_}
 use mathlib.Core.Bool.{cond}
 use mathlib.Core.List.{List}
 use Prim.Native.Nat.{ℕ, zero, suc, _+_, _-_, _^_, _≤_, _<_}
@@ -18,6 +18,7 @@ use Rattle.laws.specs.Finite.{sum-below}
 use Rattle.laws.proofs.Booleans.{cond-true, cond-false}
 use Rattle.laws.proofs.Counts.{sum-head}
 use Rattle.laws.proofs.Finite.{sum-ext}
+use Rattle.laws.proofs.Signs.{negative-fits, below-zero-fits}
 use Rattle.junctions.specs.Sets.{holds}
 use Rattle.hall.specs.Hall.{Hall}
 use Rattle.hall.specs.Plan.{Cut, cut, level-sum, difference, levels-from, levels}
@@ -55,10 +56,6 @@ difference-neg : (a b : ℕ) → a < b → difference a b ≡ negsuc (b - a - 1)
 unfolding difference
 difference-neg a b l = cond-false (leb b a) (pos (a - b)) (negsuc (b - a - 1)) (lt-leb b a l)
 
-pub debt-fits : (d : ℕ) → d < 2 ^ 31 → SFits w32 (pos 0 -ℤ pos d)
-debt-fits zero h = record { sfits = omega arith }
-debt-fits (suc d) h = subst (SFits w32) (sym (+ℤ-idl (negsuc d))) (record { sfits = omega arith })
-
 -- the machine's difference
 pub less-pos : (a b : ℕ) → b ≤ a → a < b + 2 ^ 31 → toZ w32 (a - b) ≡ difference a b
 less-pos a b l h = toZ-pos w32 (a - b) (omega arith) ∙ sym (difference-pos a b l)
@@ -67,10 +64,10 @@ debt-is : (a b : ℕ) → a < b → pos 0 -ℤ pos (b - a) ≡ difference a b
 debt-is a b l = let e : b - a ≡ suc (b - a - 1) = omega arith in ap (λ (d : ℕ). pos 0 -ℤ pos d) e ∙ +ℤ-idl (negsuc (b - a - 1)) ∙ sym (difference-neg a b l)
 
 pub less-fits : (a b : ℕ) → a < b → b < a + 2 ^ 31 → SFits w32 (pos 0 -ℤ toZ w32 (b - a))
-less-fits a b l h = rw (toZ-pos w32 (b - a) (omega arith)) (debt-fits (b - a) (omega arith))
+less-fits a b l h = below-zero-fits (b - a) (omega arith)
 
 pub less-neg : (a b : ℕ) → a < b → b < a + 2 ^ 31 → toZ w32 (ofZ w32 (pos 0 -ℤ toZ w32 (b - a))) ≡ difference a b
-less-neg a b l h = rw (toZ-pos w32 (b - a) (omega arith)) (toZ-ofZ w32 (pos 0 -ℤ pos (b - a)) (debt-fits (b - a) (omega arith)) ∙ debt-is a b l)
+less-neg a b l h = rw (toZ-pos w32 (b - a) (omega arith)) (toZ-ofZ w32 (pos 0 -ℤ pos (b - a)) (negative-fits (b - a) (omega arith)) ∙ debt-is a b l)
 
 -- levels place by place
 pub levelled-none : (ks : List Cut) (before : List ℤ) → Levelled ks 0 before before

@@ -7,7 +7,7 @@ use native.Mathlib.Omega.{arith}
 use lib.Dec.{eqb, leb}
 use borrow.Author.Tests.{le-leb, lt-leb, leb-true}
 use Rattle.laws.specs.Finite.{sum-below}
-use Rattle.laws.proofs.Booleans.{by-bool, bool-ext}
+use Rattle.laws.proofs.Booleans.{by-bool, bool-ext, cond-zero}
 use Rattle.laws.proofs.Counts.{sum-split}
 use Rattle.laws.proofs.Finite.{sum-ext, sum-zero}
 use Rattle.junctions.proofs.Sets.{none-holds, sets-ext}
@@ -22,10 +22,6 @@ use Rattle.cuts.proofs.Rest.{over-all, over-none}
 use Rattle.cuts.proofs.Room.{adding-none, adding-more, added-same}
 
 -- a weight of k is k weights of 1
-cond-zero : (b : Bool) (m : ℕ) → m ≡ 0 → cond b m 0 ≡ 0
-cond-zero true m e = e
-cond-zero false m e = refl
-
 cond-more : (b : Bool) (k : ℕ) → cond b (suc k) 0 ≡ cond b k 0 + cond b 1 0
 cond-more true k = omega arith
 cond-more false k = refl

@@ -177,7 +177,7 @@ deciding-same h rg c d costs p q levels F G rows k high so-far =
       decided = λ H joining cheap leads.
           so-far .decided H joining (omega (arith, cost-g, cost-same h c d costs H))
           (leads-ext k (λ i l u. refl) (λ i l u. sym (rows i l (omega arith))) leads);
-      parted = parted-same h rg c d costs p q levels F G rows (so-far .parted);
+      parted = parted-same h p q levels F G rows (so-far .parted);
       priced = priced-same h rg c d costs p q levels F G rows (after k) (after k) (λ i l u. refl) (so-far .priced);
     }
 

@@ -8,7 +8,7 @@ use Rattle.hall.specs.Hall.{Hall, row, count}
 use Rattle.dicuts.specs.Shores.{Ranged, once, Joining}
 use Rattle.potentials.specs.Potential.{Parted}
 use Rattle.potentials.specs.ZeroGraph.{zero-arcs}
-use Rattle.potentials.specs.Flip.{Leg, by-open, Flip, Turns, after, flipped, Route}
+use Rattle.potentials.specs.Flip.{Leg, by-open, Flip, Turns, after, Route}
 use Rattle.potentials.proofs.Flip.{flip-keeps}
 use Rattle.deciding.specs.Deciding.{opened}
 

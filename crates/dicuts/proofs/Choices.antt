@@ -1,15 +1,16 @@
--- A sum over a choice's list is a sum over all rows, by the members. Assumes nothing.
+-- A sum over a choice's list is a sum over all rows, by the members; its total is such a sum, and so are the rows that enter a shore. Assumes nothing.
 use mathlib.Core.Path.{_≡_, refl, sym, ap, _∙_}
 use mathlib.Core.Bool.{Bool, true, false, _&&_, _||_, cond}
 use mathlib.Core.List.{List, [], _∷_}
-use Prim.Native.Nat.{ℕ, zero, suc, _+_, _-_, _<_, _≤_}
+use Prim.Native.Nat.{ℕ, suc, _+_, _-_, _<_, _≤_}
 use native.Mathlib.Omega.{arith}
 use lib.Dec.{eqb, leb}
 use borrow.Author.Tests.{leb-true, eqb-true, eqb-false, ne-eqb, eq-eqb}
 use Rattle.laws.specs.Finite.{sum-below, one-if}
-use Rattle.laws.proofs.Booleans.{by-bool, clash, and-l, and-r, cond-true, cond-false}
+use Rattle.laws.proofs.Booleans.{by-bool, and-l, and-r}
 use Rattle.laws.proofs.Finite.{sum-ext, sum-add, sum-zero, sum-one}
 use Rattle.hall.specs.Hall.{Hall, row, count, enters, ascends-from, is-choice, entering, member}
+use Rattle.hall.specs.Plan.{total}
 use Rattle.dicuts.specs.Shores.{cover, once}
 
 -- the sum of f over a list
@@ -64,6 +65,11 @@ over-members f a l (i ∷ is) one e =
         (λ q. let e : i ≡ suc k = eqb-true i (suc k) q in
         rw (q, eq-eqb k (i - 1) (omega arith), ascends-skips (suc i) l is (suc k) rest (omega arith)) (omega arith))
         (λ q. let ne = eqb-false i (suc k) q in rw (q, ne-eqb k (i - 1) (λ z. ne (omega arith))) (omega arith))
+
+pub total-over : (h : Hall) (c : List ℕ) → total h c ≡ over (λ i. row h i .price) c
+unfolding total over
+total-over h [] = refl
+total-over h (i ∷ is) = omega (arith, total-over h is)
 
 entering-over : (h : Hall) (s : ℕ) (c : List ℕ) → entering h s c ≡ over (λ i. cond (enters s (row h i)) 1 0) c
 unfolding entering over

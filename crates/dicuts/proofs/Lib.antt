@@ -1,5 +1,6 @@
 pub mod Choices
 pub mod Shores
+pub mod Same
 pub mod Exchange
 pub mod Swapping
 pub mod Uncross

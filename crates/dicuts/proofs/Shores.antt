@@ -1,19 +1,18 @@
 -- The tests of the definitions say what the records say: directed cuts are shores, `sep` is `Sep`. Assumes nothing.
-use mathlib.Core.Path.{_≡_, refl, sym, ap, _∙_}
-use mathlib.Core.Bool.{Bool, true, false, _&&_, _||_, not, cond}
+use mathlib.Core.Path.{_≡_, refl, ap}
+use mathlib.Core.Bool.{Bool, true, false, _&&_, not}
 use mathlib.Core.List.{List, [], _∷_}
-use Prim.Native.Nat.{ℕ, zero, suc, _+_, _-_, _^_, _<_, _≤_}
+use Prim.Native.Nat.{ℕ, zero, suc, _-_, _^_, _<_, _≤_}
 use native.Mathlib.Omega.{arith}
 use lib.Dec.{eqb, ltb}
 use lib.ListN.{length, getD}
 use borrow.Author.Tests.{ltb-true, lt-ltb, eqb-true, eq-eqb, not-true}
-use Rattle.laws.specs.Finite.{any-below}
-use Rattle.laws.proofs.Booleans.{by-bool, clash, and-l, and-r, and-i, or-l, or-r, or-false-l, or-false-r, not-true-false}
+use Rattle.laws.proofs.Booleans.{by-bool, clash, and-l, and-r, and-i, or-false-l, or-false-r, not-true-false}
 use Rattle.laws.proofs.Finite.{any-found, any-intro}
-use Rattle.junctions.specs.Sets.{holds, full, gather}
+use Rattle.junctions.specs.Sets.{holds, full}
 use Rattle.junctions.proofs.Sets.{full-lt, gather-holds, gather-lt}
 use Rattle.hall.specs.Hall.{Hall, Row, row, row-of, count, leaves, any-leaves, is-cut}
-use Rattle.dicuts.specs.Shores.{Shore, Tight, Sep, cover, sep, around}
+use Rattle.dicuts.specs.Shores.{Shore, Sep, cover, sep, around}
 
 pub not-leaves : (s : ℕ) (r : Row) → leaves s r ≡ false → holds s (r .from) ≡ true → holds s (r .to) ≡ true
 unfolding leaves
@@ -87,10 +86,6 @@ module _ (h : Hall) (x : ℕ → ℕ) (v u : ℕ) where
       (and-i (is-cut h s && eqb (cover h x s) 1) (holds s v && not (holds s u))
       (and-i (is-cut h s) (eqb (cover h x s) 1) (shore-cut h s (g .tight .shore)) (eq-eqb (cover h x s) 1 (g .tight .one)))
       (and-i (holds s v) (not (holds s u)) (g .has) (ap not (g .lacks))))
-
-  -- separated or not: one of the two
-  pub decide-sep {ℓ} : {C : Type ℓ} → (Sep h x v u → C) → ((Sep h x v u → ⊥) → C) → C
-  decide-sep f g = by-bool (sep h x v u) (λ e. f (sep-true e)) (λ e. g (λ s. clash (true-sep s) e))
 
 -- the neighbourhood holds what is not separated
 pub around-holds : (h : Hall) (x : ℕ → ℕ) (v u : ℕ) → 1 ≤ u → u ≤ h .n → holds (around h x v) u ≡ not (sep h x v u)

@@ -11,6 +11,7 @@ use Rattle.laws.proofs.Finite.{any-found, any-intro}
 use Rattle.laws.proofs.Growth.{count-le, same-or-less}
 use Rattle.junctions.proofs.Bounds.{junction-le, within-full-lt}
 use Rattle.junctions.proofs.Sets.{and-holds, full-holds, within-full, within-both, gather-lt, gather-holds, sets-ext}
+use Rattle.junctions.proofs.Single.{one-self}
 use Rattle.laws.specs.Finite.{count-below}
 use Rattle.junctions.specs.Sets.{holds, full, Within}
 use Rattle.digraph.specs.Reach.{Closed, Reach}
@@ -131,6 +132,11 @@ pub reach-unique : (n : ℕ) (out : ℕ → ℕ) (start r t : ℕ) → r < 2 ^ n
 reach-unique n out start r t hr ht a b =
     within-both n r t hr ht (a .least t (b .contains) (b .closed)) (b .least r (a .contains) (a .closed))
 
+-- a start is reached
+pub start-reached : (n : ℕ) (out : ℕ → ℕ) (start r : ℕ) → 1 ≤ start → Reach n out (2 ^ (start - 1)) r → holds r start ≡ true
+unfolding Within
+start-reached n out start r low reach = reach .contains start low (one-self start low)
+
 -- what is reached among 64 junctions is reached among the first n, where arcs lead to these only
 module _ (n : ℕ) (out : ℕ → ℕ) (start r : ℕ) (small : n ≤ 64) (few : start < 2 ^ n)
     (ranged : (j : ℕ) → 1 ≤ j → j ≤ n → out j < 2 ^ n) (reach : Reach 64 out start r) where
@@ -166,3 +172,13 @@ module _ (n : ℕ) (out : ℕ → ℕ) (start r : ℕ) (small : n ≤ 64) (few :
     closed = λ j l m. reach .closed j l (omega arith);
     least = λ t c d y p a. and-l (holds t y) (holds (full n) y) (sym (and-holds t (full n) y) ∙ within-cut t c d y p a);
   }
+
+-- what is reached among the first n junctions is reached among more
+pub reach-widen : (n m : ℕ) (out : ℕ → ℕ) (start r : ℕ) → n ≤ m → r < 2 ^ n → Reach n out start r → Reach m out start r
+unfolding Closed
+reach-widen n m out start r le small g =
+    record {
+      contains = g .contains;
+      closed = λ j l k t. g .closed j l (junction-le n r j small t) t;
+      least = λ t c d. g .least t c (λ j l k. d j l (omega arith));
+    }

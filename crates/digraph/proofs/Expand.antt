@@ -12,8 +12,8 @@ use Rattle.junctions.specs.Sets.{holds}
 use Rattle.digraph.specs.Search.{Searching, unexpanded}
 use Rattle.digraph.proofs.Search.{search-step, search-less}
 
--- the junctions to do, once the lowest is done
-abbrev left-after : (reached todo found : ℕ) → ℕ
+-- the junctions to do once the lowest is done, where it brings in what is found
+abbrev pub left-after : (reached todo found : ℕ) → ℕ
 left-after reached todo found = bitOr (bitAnd todo (todo - 1)) (bitXor found (bitAnd found reached))
 
 module _ (out : ℕ → ℕ) (start reached todo found : ℕ) (some : 0 < todo) (fits : todo < 2 ^ 64)

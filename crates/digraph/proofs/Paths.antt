@@ -120,22 +120,9 @@ module _ (n : ℕ) (out : ℕ → ℕ) (start : ℕ) (dist : ℕ → ℕ) (d : D
     least = λ t c o y l h. let w = near-low y l h in near-needed t c o s (dist y) y l (w .0) refl (w .1);
   }
 
--- distances among m junctions are distances among the first n, where arcs from these lead to these only
-module _ (m n : ℕ) (out : ℕ → ℕ) (start : ℕ) (dist : ℕ → ℕ) (small : n ≤ m) (to-last : start ≤ n)
-    (ranged : (j : ℕ) → 1 ≤ j → j ≤ n → out j < 2 ^ n) (d : Distances m out start dist) where
-  near-first : (k y : ℕ) → 1 ≤ y → y ≤ m → dist y ≡ k → k < m → y ≤ n
-  near-first zero y p q e h = omega (arith, d .alone y p q e, to-last)
-  near-first (suc k) y p q e h =
-      let w = d .behind y p q (omega (arith, e)) (omega (arith, e)) in
-      let x = near-first k (w .0) (w .1) (w .2) (omega (arith, w .3, e)) (omega arith) in
-      junction-le n (out (w .0)) y (ranged (w .0) (w .1) x) (w .4)
-
-  pub distances-narrow : Distances n out start dist
-  distances-narrow = record {
-    here = d .here;
-    alone = λ y p q. d .alone y p (omega arith);
-    ahead = λ x y a b p q. d .ahead x y a (omega arith) p (omega arith);
-    behind = λ y p q z h.
-        let w = d .behind y p (omega arith) z (omega arith) in
-        (w .0, w .1, near-first (dist (w .0)) (w .0) (w .1) (w .2) refl (omega (arith, w .3)), w .3, w .4);
-  }
+  -- so what is reached is at a distance
+  pub reached-near : 1 ≤ start → start ≤ n → ((j : ℕ) → 1 ≤ j → j ≤ n → out j < 2 ^ n)
+      → (r : ℕ) → Reach n out (2 ^ (start - 1)) r → (y : ℕ) → 1 ≤ y → holds r y ≡ true → dist y < n
+  unfolding Within
+  reached-near s b ranged r reach y l t =
+      let around = near-reach s b ranged in near-low y l (reach .least (near n dist) (around .contains) (around .closed) y l t) .1

@@ -7,8 +7,8 @@ use native.Mathlib.Omega.{arith}
 use lib.ListN.{length, getD}
 use Rattle.hall.specs.Hall.{Hall, row, count, is-choice, entering, member}
 use Rattle.hall.specs.Plan.{Cut, Beside, cuts-good, load, loads-fit, level-sum, weight-sum, total}
+use Rattle.dicuts.proofs.Choices.{total-over}
 use Rattle.duality.specs.Weighted.{Meeting}
-use Rattle.duality.proofs.Over.{total-over}
 use Rattle.duality.proofs.Cuts.{loads-carried}
 use Rattle.duality.proofs.Bounds.{weights-below, loads-full, cuts-met-once}
 use Rattle.duality.proofs.Levels.{levels-rise}

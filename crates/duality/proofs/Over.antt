@@ -10,7 +10,6 @@ use lib.Dec.{eqb}
 use borrow.Author.Tests.{eqb-true}
 use Rattle.laws.proofs.Booleans.{by-bool, clash, or-cases}
 use Rattle.hall.specs.Hall.{Hall, row, enters, entering, ascends-from, member}
-use Rattle.hall.specs.Plan.{total}
 use Rattle.dicuts.proofs.Choices.{over, ascends-low, ascends-high, ascends-rest}
 
 pub over-add : (f g : ℕ → ℕ) (d : List ℕ) → over (λ i. f i + g i) d ≡ over f d + over g d
@@ -22,11 +21,6 @@ pub over-zero : (d : List ℕ) → over (λ i. 0) d ≡ 0
 unfolding over
 over-zero [] = refl
 over-zero (i ∷ is) = omega (arith, over-zero is)
-
-pub total-over : (h : Hall) (d : List ℕ) → total h d ≡ over (λ i. row h i .price) d
-unfolding over total
-total-over h [] = refl
-total-over h (i ∷ is) = omega (arith, total-over h is)
 
 -- a weight, once for each row that enters
 pub over-entering : (h : Hall) (s w : ℕ) (d : List ℕ) → over (λ i. cond (enters s (row h i)) w 0) d ≡ w * entering h s d

@@ -9,15 +9,13 @@ use lib.Dec.{ltb}
 use lib.ListN.{length, getD, List·getD-eq-default}
 use borrow.Author.Tests.{ltb-true, ltb-false}
 use Rattle.laws.proofs.Booleans.{by-bool, or-cases, or-false-r}
-use Rattle.junctions.specs.Sets.{holds, Within}
+use Rattle.junctions.specs.Sets.{holds}
 use Rattle.junctions.proofs.Bits.{one-shl}
-use Rattle.junctions.proofs.Single.{one-lt, one-self}
+use Rattle.junctions.proofs.Single.{one-lt}
 use Rattle.digraph.specs.Adjacency.{out-of}
-use Rattle.digraph.specs.Distances.{near}
 use Rattle.digraph.specs.Paths.{Distances}
 use Rattle.digraph.specs.Reach.{Reach}
-use Rattle.digraph.proofs.Closure.{reach-narrow}
-use Rattle.digraph.proofs.Paths.{near-holds, near-reach}
+use Rattle.digraph.proofs.Closure.{start-reached, reach-narrow}
 use Rattle.digraph.proofs.Same.{reach-same}
 use Rattle.hall.specs.Hall.{Hall, row, count}
 use Rattle.dicuts.specs.Shores.{Ranged}
@@ -29,7 +27,9 @@ use Rattle.deciding.specs.Decided.{after}
 use Rattle.deciding.specs.Deciding.{opened, Deciding}
 use Rattle.deciding.proofs.Deciding.{deciding-in, deciding-out, deciding-raise, deciding-flip, deciding-same}
 use Rattle.columns.specs.Columns.{at, flagged, Columns}
+use Rattle.columns.proofs.Places.{place-tail, place-head}
 use Rattle.planner.specs.Zero.{Zero-graph}
+use Rattle.planner.proofs.Rows.{cost-here, tail-level, head-level}
 use Rattle.first.specs.Standing.{Movable}
 
 turned-round : (b c : Bool) → not b ≡ c → b ≡ not c
@@ -53,18 +53,6 @@ raised-rise z potential next size is j =
     omega arith)
     (λ e. omega (arith, List·getD-eq-default next 0 {n = j} (omega (arith, ltb-false j 64 e))))
 
--- what is reached from the junction at place a is at a distance from it
-pub reached-near :
-    (sets : List ℕ) → ((j : ℕ) → out-of sets j < 2 ^ 64) → (a : ℕ) → a < 64 → (dist : ℕ → ℕ) → Distances 64 (out-of sets) (suc a) dist → (r : ℕ) →
-    Reach 64 (out-of sets) ((1 * 2 ^ a) % 2 ^ 64) r → (y : ℕ) → 1 ≤ y → y ≤ 64 → holds r y ≡ true → dist y < 64
-unfolding Within
-reached-near sets words a few dist d r reach y l u e =
-    let place : suc a - 1 ≡ a = omega arith in
-    let near-is : Reach 64 (out-of sets) ((1 * 2 ^ a) % 2 ^ 64) (near 64 dist) =
-    rw (one-shl a few) (rw place at (near-reach 64 (out-of sets) (suc a) dist d (omega arith) (omega arith) (λ j p q. words j))) in
-    ltb-true (dist y) 64
-    (sym (near-holds 64 (out-of sets) (suc a) dist d y l u) ∙ reach .least (near 64 dist) (near-is .contains) (near-is .closed) y l e)
-
 -- the row at place k, its tail at place a and its head at place b
 module _ (h : Hall) (rg : Ranged h) (n m : ℕ) (ts hs : List ℕ) (few : n ≤ 64) (rows-few : m ≤ 256) (cols : Columns h n m ts hs) (k : ℕ) (less : k < m)
     (a b : ℕ) (tail : suc a ≡ getD ts k 0) (head : suc b ≡ getD hs k 0)
@@ -74,19 +62,19 @@ module _ (h : Hall) (rg : Ranged h) (n m : ℕ) (ts hs : List ℕ) (few : n ≤ 
   row-high = omega (arith, cols .rows)
 
   from-is : suc a ≡ row h (suc k) .from
-  from-is = let place : suc k - 1 ≡ k = omega arith in tail ∙ rw place at (cols .tail (suc k) (omega arith) less)
+  from-is = tail ∙ place-tail h n m ts hs cols k less
 
   to-is : suc b ≡ row h (suc k) .to
-  to-is = let place : suc k - 1 ≡ k = omega arith in head ∙ rw place at (cols .head (suc k) (omega arith) less)
+  to-is = head ∙ place-head h n m ts hs cols k less
 
   at-tail : at potential (row h (suc k) .from) ≡ getD potential a 0
-  at-tail = ap (λ (j : ℕ). at potential j) (sym from-is) ∙ (let place : suc a - 1 ≡ a = omega arith in rw place)
+  at-tail = tail-level h n m ts hs costs movable chosen potential cols k a b less tail head
 
   at-head : at potential (row h (suc k) .to) ≡ getD potential b 0
-  at-head = ap (λ (j : ℕ). at potential j) (sym to-is) ∙ (let place : suc b - 1 ≡ b = omega arith in rw place)
+  at-head = head-level h n m ts hs costs movable chosen potential cols k a b less tail head
 
   at-row : at costs (suc k) ≡ getD costs k 0
-  at-row = let place : suc k - 1 ≡ k = omega arith in rw place
+  at-row = cost-here h n m ts hs costs movable chosen potential cols k a b less tail head
 
   -- a chosen row stays in, and a row with a gap out
   pub stays :
@@ -126,10 +114,9 @@ module _ (h : Hall) (rg : Ranged h) (n m : ℕ) (ts hs : List ℕ) (few : n ≤ 
     pub raised-out :
         holds r (suc b) ≡ false → (next : List ℕ) → ((j : ℕ) → 1 ≤ j → j ≤ 64 → at next j ≡ raised r 1 (at potential) j) →
         Deciding h (at costs) (suc k) (at next) (flagged chosen)
-    unfolding Within
     raised-out away next is =
         let l = rg .from-low (suc k) (omega arith) row-high in
-        let from-in : holds r (row h (suc k) .from) ≡ true = tail-reach .contains (row h (suc k) .from) l (one-self (row h (suc k) .from) l) in
+        let from-in : holds r (row h (suc k) .from) ≡ true = start-reached (h .n) zero (row h (suc k) .from) r l tail-reach in
         let to-out : holds r (row h (suc k) .to) ≡ false = ap (holds r) (sym to-is) ∙ away in
         deciding-same h rg (at costs) (at costs) (λ i p q. refl) (raised r 1 (at potential)) (at next)
         (λ j p q. sym (is j p (omega (arith, cols .junctions)))) (flagged chosen) (flagged chosen) (λ i p q. refl) (suc k) row-high

@@ -1,7 +1,7 @@
 // The first choice of least ranked cost: row by row, each is decided for good.
+use junctions::place;
 use planner::flip::flip;
 use planner::places::has;
-use planner::places::place;
 use planner::raise::raise;
 use planner::repair::State;
 use planner::zero::zero_graph;

@@ -6,7 +6,6 @@ use Prim.Native.Nat.{ℕ, _-_, _^_, _≤_, _<_}
 use native.Mathlib.Omega.{arith}
 use lib.Dec.{eqb}
 use Rattle.junctions.specs.Sets.{full}
-use Rattle.junctions.proofs.Sets.{gather-lt}
 use Rattle.junctions.proofs.Single.{one-lt}
 use Rattle.digraph.specs.Reach.{Reach}
 use Rattle.digraph.specs.Adjacency.{out-of}
@@ -15,15 +14,12 @@ use Rattle.digraph.proofs.Same.{reach-same}
 use Rattle.hall.specs.Hall.{Hall, count, member, reached}
 use Rattle.hall.specs.File.{all-numbers, connected}
 use Rattle.dicuts.specs.Shores.{Ranged}
-use Rattle.dicuts.specs.Arcs.{arc, arcs}
+use Rattle.dicuts.specs.Arcs.{arcs}
 use Rattle.joining.proofs.Reached.{reached-is, reached-lt}
+use Rattle.joining.proofs.Sealed.{arcs-lt}
 use Rattle.joining.proofs.Connected.{all-numbers-member}
 use Rattle.columns.specs.Columns.{Arcs, flagged}
 use Rattle.adjacency.proofs.Arcs.{arcs-ext}
-
-arcs-lt : (h : Hall) (F : ℕ → Bool) (x : ℕ) → arcs h F x < 2 ^ h .n
-unfolding arcs
-arcs-lt h F x = gather-lt (h .n) (arc h F x)
 
 module _ (h : Hall) (rg : Ranged h) (few : h .n ≤ 64) (flags : List Bool) (sets : List ℕ) (r : ℕ)
     (every : (i : ℕ) → 1 ≤ i → i ≤ count h → flagged flags i ≡ true) (is-arcs : Arcs h (flagged flags) sets) (reach : Reach 64 (out-of sets) 1 r) where

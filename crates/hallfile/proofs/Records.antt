@@ -2,14 +2,13 @@
 use mathlib.Core.Path.{_≡_, refl}
 use Prim.Native.Nat.{ℕ, _-_, _≤_}
 use native.Mathlib.Omega.{arith}
-use lib.ListN.{length}
 use Rattle.hall.specs.Hall.{Hall, Row, row, row-of, count}
 use Rattle.dicuts.specs.Shores.{Ranged}
 use Rattle.columns.specs.Columns.{at, Ends, Columns}
 use Rattle.columns.proofs.Ranged.{ranged-ends}
 use Rattle.hallfile.specs.declared.HallRecord.{HallRecord}
 use Rattle.hallfile.specs.Record.{column, record-of}
-use Rattle.hallfile.proofs.Columns.{column-at, padded-length}
+use Rattle.hallfile.proofs.Columns.{column-at}
 
 column-row : (h : Hall) (f : Row → ℕ) (i : ℕ) → count h ≤ 256 → 1 ≤ i → i ≤ count h → at (column f (h .rows)) i ≡ f (row h i)
 unfolding row count
@@ -40,7 +39,3 @@ module _ (h : Hall) (few : count h ≤ 256) where
     pub record-ends : Ranged h → h .n ≤ 64 → Ends (x .n) (x .count) (x .tails) (x .heads)
     record-ends rg size =
         ranged-ends h (x .n) (x .count) (x .tails) (x .heads) (omega (arith, record-columns .junctions)) (omega (arith, record-columns .rows)) rg record-columns
-
-    pub record-lengths : (length (x .tails) ≡ 256) × (length (x .heads) ≡ 256) × (length (x .prices) ≡ 256)
-    unfolding record-of column
-    record-lengths = rw is (padded-length 256 _, padded-length 256 _, padded-length 256 _)

@@ -1,9 +1,7 @@
 -- What a missed shore, or none, answers. Assumes nothing.
 use mathlib.Core.Path.{_≡_, refl, sym, ap}
 use Prim.Native.Nat.{ℕ, zero, suc}
-use native.Mathlib.Omega.{arith}
 use Rattle.choice.specs.Short.{if-some}
-use Rattle.himalowen.specs.declared.Finding.{Finding}
 use Rattle.himalowen.specs.declared.Finding.the-variants.{Joins, Misses}
 use Rattle.himalowen.specs.Answers.{missing}
 

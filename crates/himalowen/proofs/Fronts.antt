@@ -1,12 +1,11 @@
 -- Lists of which the first places are filled and the others are as they were. Assumes nothing.
 use mathlib.Core.Path.{_≡_, refl, sym, ap, _∙_}
-use mathlib.Core.Bool.{true, false}
-use mathlib.Core.List.{List, [], _∷_, _++_}
+use mathlib.Core.List.{List, _++_}
 use Prim.Native.Nat.{ℕ, zero, suc, _+_, _-_, _<_, _≤_}
 use native.Mathlib.Omega.{arith}
 use lib.Dec.{ltb}
 use lib.IntN.{ℤ, pos}
-use lib.ListN.{length, getD, take, drop, length-append, length-drop, take-append-drop, List·getD-append}
+use lib.ListN.{length, getD, drop, length-append, length-drop, take-append-drop, List·getD-append}
 use lib.Seq.{ext-getD, getD-append-add, getD-drop}
 use borrow.Author.Tests.{ltb-true, ltb-false}
 use Rattle.laws.proofs.Booleans.{by-bool}

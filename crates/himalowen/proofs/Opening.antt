@@ -1,27 +1,22 @@
 -- What an opened hall gives: a choice of a sound, ranged and linked hall, in columns and flags. Assumes nothing.
-use mathlib.Core.Path.{_≡_, refl, sym, ap, _∙_}
-use mathlib.Core.Bool.{Bool, true, false, not, cond}
+use mathlib.Core.Path.{_≡_, ap, _∙_}
+use mathlib.Core.Bool.{Bool, true, false, not}
 use mathlib.Core.List.{List}
 use Prim.Native.Nat.{ℕ, suc, _-_, _≤_, _<_}
 use native.Mathlib.Omega.{arith}
 use lib.Dec.{eqb}
 use lib.ListN.{getD}
-use borrow.Author.Tests.{not-true, not-false}
 use Rattle.laws.proofs.Booleans.{by-bool, clash}
-use Rattle.hall.specs.Hall.{count, is-choice, ascends-from, member}
+use Rattle.hall.specs.Hall.{count, is-choice, member}
 use Rattle.hall.specs.File.{hall-in, hall-refusal, Refusal, refusal}
 use Rattle.dicuts.specs.Shores.{Ranged}
 use Rattle.columns.specs.Columns.{Ends, Columns, flagged}
-use Rattle.hallfile.specs.declared.Kind.{Kind}
-use Rattle.hallfile.specs.declared.Kind.the-variants.{None, Choice}
-use Rattle.hallfile.specs.declared.HallRecord.{HallRecord}
 use Rattle.hallfile.specs.Kinds.{refusal-of}
-use Rattle.hallfile.specs.Record.{record-of}
-use Rattle.hallfile.proofs.Reply.{kind-none, is-refused, is-fine}
+use Rattle.hallfile.proofs.Reply.{is-refused, is-fine}
 use Rattle.himalowen.specs.declared.Opened.{Opened}
 use Rattle.himalowen.specs.Entry.{choice-refusal}
 use Rattle.himalowen.specs.Opening.{Opening}
-use Rattle.himalowen.proofs.Check.{hall-refused, list-refused, none-refused}
+use Rattle.himalowen.proofs.Check.{hall-refused, list-refused}
 use Rattle.himalowen.proofs.Reading as reading
 
 -- a reply that is refused

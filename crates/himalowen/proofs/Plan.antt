@@ -10,11 +10,11 @@ use lib.ListN.{length, getD, drop, replicate, getD-replicate}
 use borrow.Author.Tests.{eqb-true, eqb-false, ltb-false}
 use Rattle.laws.specs.Finite.{sum-below}
 use Rattle.laws.proofs.Booleans.{cond-true, cond-false, or-false-l, or-false-r}
-use Rattle.hall.specs.Hall.{Hall, count, row}
+use Rattle.hall.specs.Hall.{Hall, count}
 use Rattle.hall.specs.File.{hall-in, hall-refusal, Refusal, refusal}
-use Rattle.hall.specs.Plan.{Cut, First, Beside, total, levels}
+use Rattle.hall.specs.Plan.{First, total, levels}
 use Rattle.dicuts.specs.Shores.{once}
-use Rattle.columns.specs.Columns.{at, flagged, Ends, Columns, Arcs}
+use Rattle.columns.specs.Columns.{at, flagged, Ends, Arcs}
 use Rattle.adjacency.proofs.Arcs.{arcs-ext}
 use Rattle.choicelists.specs.Listed.{listed}
 use Rattle.certificates.specs.Cuts.{cuts}
@@ -31,10 +31,10 @@ use Rattle.hallfile.specs.Record.{record-of}
 use Rattle.hallfile.proofs.Records.{record-prices}
 use Rattle.ledger.proofs.Choices.{flagged-total}
 use Rattle.planner.specs.declared.repair.State.{State}
-use Rattle.plan.specs.Ready.{Ready, Settled, Cheapest}
+use Rattle.plan.specs.Ready.{Ready, Cheapest}
 use Rattle.himalowen.specs.declared.Planned.{Planned}
 use Rattle.himalowen.specs.Answers.{unplanned}
-use Rattle.himalowen.specs.Entry.{plan-refusal, shores, weights, in-front, Filled, Turned, Plan-as, Plan-says}
+use Rattle.himalowen.specs.Entry.{plan-refusal, in-front, Filled, Turned, Plan-as, Plan-says}
 use Rattle.himalowen.proofs.Fronts.{cuts-count, shores-front, weights-front, levels-front}
 use Rattle.himalowen.proofs.Reading as reading
 

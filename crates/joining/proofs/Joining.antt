@@ -9,7 +9,7 @@ use borrow.Author.Tests.{ltb-true, ltb-false, not-true}
 use Rattle.laws.specs.Finite.{one-if}
 use Rattle.laws.proofs.Booleans.{by-bool, clash, and-l, and-r, and-i, not-true-false, bool-ext, cond-true, cond-false}
 use Rattle.laws.proofs.Finite.{sum-zero, sum-le, sum-at-least}
-use Rattle.laws.proofs.Growth.{one-if-true, one-if-false}
+use Rattle.laws.proofs.Connectives.{one-true, one-false}
 use Rattle.junctions.specs.Sets.{holds, full, Within}
 use Rattle.junctions.proofs.Sets.{and-holds, full-lt, within-full, within-both, some-junction, gather-lt}
 use Rattle.junctions.proofs.Single.{one-lt}
@@ -35,7 +35,7 @@ module _ (h : Hall) (F : ℕ → Bool) (s : ℕ) where
       let v = holds s (row h (suc k) .to) in
       by-bool (not u && v)
       (λ e. cond-true (not u && v) (one-if (F (suc k))) 0 e
-      ∙ one-if-false (F (suc k)) (not-true-false (F (suc k)) (λ f.
+      ∙ one-false (F (suc k)) (not-true-false (F (suc k)) (λ f.
       clash (sl .shut (suc k) (omega arith) (omega arith) f (and-r (not u) v e)) (not-true u (and-l (not u) v e)))))
       (λ e. cond-false (not u && v) (one-if (F (suc k))) 0 e)
 
@@ -53,7 +53,7 @@ module _ (h : Hall) (F : ℕ → Bool) (s : ℕ) where
         by-bool (holds s (row h i .from)) (λ e. e)
         (λ e.
         let in-it : (not (holds s (row h i .from)) && holds s (row h i .to)) ≡ true = and-i (not (holds s (row h i .from))) (holds s (row h i .to)) (ap not e) t in
-        let one : met (i - 1) ≡ 1 = rw at (cond-true (not (holds s (row h i .from)) && holds s (row h i .to)) (one-if (F i)) 0 in-it ∙ one-if-true (F i) f) in
+        let one : met (i - 1) ≡ 1 = rw at (cond-true (not (holds s (row h i .from)) && holds s (row h i .to)) (one-if (F i)) 0 in-it ∙ one-true (F i) f) in
         absurd (omega (arith, one, none, sum-at-least (count h) met (i - 1) (omega arith))));
   }
 

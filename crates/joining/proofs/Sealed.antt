@@ -2,7 +2,7 @@
 use mathlib.Core.Path.{_≡_, refl, sym, ap, _∙_}
 use mathlib.Core.Bool.{Bool, true, _&&_, _||_}
 use mathlib.Core.Logic.{⊎-elim}
-use Prim.Native.Nat.{ℕ, zero, suc, _≤_}
+use Prim.Native.Nat.{ℕ, zero, suc, _^_, _≤_, _<_}
 use native.Mathlib.Omega.{arith}
 use lib.Dec.{eqb, leb}
 use borrow.Author.Tests.{eq-eqb, eqb-true, leb-true, leb-false}
@@ -63,6 +63,10 @@ module _ (h : Hall) (F : ℕ → Bool) where
       (or-cases (ahead x y k) (back x y k) (w .2))
 
   -- the adjacency holds what an arc leads to
+  pub arcs-lt : (x : ℕ) → arcs h F x < 2 ^ h .n
+  unfolding arcs
+  arcs-lt x = gather-lt (h .n) (arc h F x)
+
   pub arcs-arc : (x y : ℕ) → 1 ≤ y → holds (arcs h F x) y ≡ true → arc h F x y ≡ true
   unfolding arcs
   arcs-arc x y l e =

@@ -1,6 +1,6 @@
 -- Bit by bit: what and, or, xor, powers and shifts do to one bit. Assumes nothing.
 use mathlib.Core.Path.{_≡_, refl, sym, ap, _∙_}
-use mathlib.Core.Bool.{Bool, true, false, _&&_, _||_, not}
+use mathlib.Core.Bool.{_&&_, _||_, not}
 use mathlib.Core.Logic.{_⊎_, inl, inr, ⊎-elim}
 use Prim.Native.Nat.{ℕ, zero, suc, _+_, _-_, _*_, _/_, _%_, _^_, _≤_, _<_, min, max}
 use native.Mathlib.Nat.{pow-suc, mod-lt, zero-lt-suc}
@@ -9,8 +9,8 @@ use native.Mathlib.Omega.{arith}
 use lib.Dec.{eqb, leb, eqb·suc-suc, leb·zero, leb·suc-zero, leb·suc-suc}
 use lib.Count.{trailingZeros, under, ones, ones-step}
 use lib.Pow.{shr-shr, shl-exact, pow-pos}
-use lib.Bits.{bitAnd, bitOr, bitXor, differ, and-step, or-step, xor-step, and-shr, or-shr, xor-shr, and-high, or-add-and, and-self}
-use borrow.Author.Tests.{eq-eqb, ne-eqb}
+use lib.Bits.{bitAnd, bitOr, bitXor, differ, and-step, or-step, xor-step, and-shr, or-shr, xor-shr, and-high, and-self}
+use borrow.Author.Tests.{ne-eqb}
 
 abbrev pub bit : (s k : ℕ) → ℕ
 bit s k = s / 2 ^ k % 2

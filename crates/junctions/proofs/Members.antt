@@ -1,17 +1,16 @@
 -- A set that holds a junction is not empty, one that lacks a junction is not the whole hall, and the other way round. Assumes nothing.
-use mathlib.Core.Path.{_≡_, sym, ap, _∙_}
-use mathlib.Core.Bool.{true, false, _&&_, not}
+use mathlib.Core.Path.{_≡_, ap, _∙_}
+use mathlib.Core.Bool.{true, false, _&&_}
 use Prim.Native.Nat.{ℕ, zero, suc, _-_, _^_, _≤_, _<_}
 use native.Mathlib.Omega.{arith}
 use lib.Bits.{bitAnd, and-le-l, and-le-r}
 use lib.Dec.{ltb}
 use lib.Pow.{le-ones}
-use borrow.Author.Tests.{le-leb, ltb-true, ltb-false, not-true, not-false}
+use borrow.Author.Tests.{le-leb, ltb-true, ltb-false}
 use Rattle.laws.proofs.Booleans.{by-bool, clash, and-l, and-i, bool-ext}
 use Rattle.laws.proofs.Growth.{lt-two-pow}
-use Rattle.laws.proofs.Finite.{decide-below}
 use Rattle.junctions.specs.Sets.{holds, full, Within}
-use Rattle.junctions.proofs.Sets.{none-holds, full-holds, full-lt, sets-ext, and-holds}
+use Rattle.junctions.proofs.Sets.{none-holds, full-holds, sets-ext, and-holds}
 
 pub holds-some : (s j : ℕ) → holds s j ≡ true → 0 < s
 holds-some zero j e = clash e (none-holds j)
@@ -30,19 +29,6 @@ lacks-proper n s j h l m e =
     (λ t.
     let whole : s ≡ full n = omega (arith, le-full n s h, ltb-false s (full n) t) in
     clash (ap (λ (r : ℕ). holds r j) whole ∙ full-in n j l m) e)
-
--- a set that is not the whole hall lacks a junction
-pub missing-junction : (n s : ℕ) → s < full n → (j : ℕ) × (1 ≤ j) × (j ≤ n) × (holds s j ≡ false)
-missing-junction n s h =
-    decide-below n (λ k. not (holds s (suc k)))
-    (λ k l e. (suc k, omega arith, omega arith, not-true (holds s (suc k)) e))
-    (λ none.
-    let whole : s ≡ full n =
-    sets-ext n s (full n) (omega (arith, full-lt n)) (full-lt n)
-    (λ j l m.
-    let e : suc (j - 1) ≡ j = omega arith in
-    (rw e at (not-false (holds s (suc (j - 1))) (none (j - 1) (omega arith)))) ∙ sym (full-in n j l m)) in
-    absurd (omega arith))
 
 -- a set within another is at most that number
 pub within-le : (a s : ℕ) → Within a s → a ≤ s

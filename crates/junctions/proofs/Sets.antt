@@ -1,17 +1,17 @@
 -- What each operation on sets holds, and that sets with the same junctions are the same. Assumes nothing.
-use mathlib.Core.Path.{_≡_, refl, sym, ap, ap₂, _∙_}
+use mathlib.Core.Path.{_≡_, sym, ap, ap₂, _∙_}
 use mathlib.Core.Bool.{Bool, true, false, _&&_, _||_, not, cond}
-use Prim.Native.Nat.{ℕ, zero, suc, _+_, _-_, _*_, _/_, _%_, _^_, _≤_, _<_}
+use Prim.Native.Nat.{ℕ, zero, suc, _+_, _-_, _*_, _^_, _≤_, _<_}
 use native.Mathlib.Nat.{pow-suc, add-zero}
 use native.Mathlib.Omega.{arith}
 use mathlib.Core.Logic.{⊎-elim}
 use lib.Dec.{eqb, leb}
 use lib.Bits.{bitAnd, bitOr, bitXor, or-add-and}
 use lib.Count.{trailingZeros}
-use lib.Pow.{pow-pos, pow-lt, ones-lt}
-use borrow.Author.Tests.{eq-eqb, ne-eqb, eqb-true, eqb-false, le-leb, leb-true}
+use lib.Pow.{ones-lt}
+use borrow.Author.Tests.{eq-eqb, ne-eqb, eqb-true, eqb-false}
 use Rattle.laws.proofs.Finite.{last-or-below}
-use Rattle.laws.proofs.Booleans.{by-bool, clash, and-l, and-r, bool-ext, cond-true, cond-false}
+use Rattle.laws.proofs.Booleans.{by-bool, clash, bool-ext}
 use Rattle.junctions.specs.Sets.{holds, full, with-junction, gather, Within, Lowest}
 use Rattle.junctions.proofs.Bits.{bit, bit-lt, and-bit, or-bit, xor-bit, and-eqb, or-eqb, less-eqb, pow-bit, same-eqb, full-bit, bits-ext, high-bit, top-one, low-same, bit-of-zero, and-pow, trailing-bit, trailing-low, trailing-lt}
 use lib.Bits.{differ}

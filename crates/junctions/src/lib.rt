@@ -1,7 +1,7 @@
 // Sets of junctions 1 to 64, as the bits of a word: junction j is bit j - 1.
 ghost use mathlib.Core.Path.{_≡_};
 ghost use mathlib.Core.Bool.{Bool, true, false, _&&_, _||_, not};
-ghost use Prim.Native.Nat.{ℕ, _≤_, _<_};
+ghost use Prim.Native.Nat.{ℕ, suc, _≤_, _<_};
 ghost use lib.Dec.{eqb};
 ghost use Rattle.junctions.specs.Sets.{holds, full, with-junction, Within, Lowest};
 
@@ -72,4 +72,12 @@ impl Junctions {
     {
         self.0 == 0
     }
+}
+
+// The place of a junction in an array of 64, from 0.
+pub fn place(junction: u8) -> usize
+    requires { ⌜ (1 ≤ junction) × (junction ≤ 64) ⌝ }
+    ensures { λ r. ⌜ (suc r ≡ junction) × (r < 64) ⌝ }
+{
+    (junction as usize) - 1
 }

@@ -11,7 +11,7 @@ use lib.Pow.{pow-pos}
 use borrow.Author.Tests.{lt-ltb, eqb-false}
 use Rattle.laws.specs.Finite.{count-below, one-if}
 use Rattle.laws.proofs.Booleans.{by-bool, clash, and-l, and-r, and-i, or-cases, or-l, or-r, bool-ext, not-false-true}
-use Rattle.laws.proofs.Counts.{sum-split, count-or-and, count-le, count-none, count-alone, count-insert}
+use Rattle.laws.proofs.Counts.{sum-split, count-or-and, count-mono, count-none, count-alone, count-insert}
 use Rattle.junctions.specs.Sets.{holds}
 use Rattle.junctions.proofs.Sets.{high-holds, sets-ext, some-junction}
 use Rattle.junctions.proofs.Complement.{top-holds, low-holds}
@@ -107,7 +107,7 @@ module _ (k : ℕ) (F : ℕ → Bool) (none : F 0 ≡ false) (laminar : Laminar 
   either-few : count-below (2 ^ k) (λ s. F s || F (2 ^ k + s)) ≤ suc (count-below (2 ^ k) (left-of k F))
   unfolding left-of
   either-few =
-      omega (arith, count-insert (2 ^ k) 0 (left-of k F) (pow-pos k) refl, count-le (2 ^ k) (λ s. F s || F (2 ^ k + s)) (λ s. eqb 0 s || left-of k F s) more)
+      omega (arith, count-insert (2 ^ k) 0 (left-of k F) (pow-pos k) refl, count-mono (2 ^ k) (λ s. F s || F (2 ^ k + s)) (λ s. eqb 0 s || left-of k F s) more)
     where
       more : (s : ℕ) → s < 2 ^ k → F s || F (2 ^ k + s) ≡ true → eqb 0 s || left-of k F s ≡ true
       more s h e =

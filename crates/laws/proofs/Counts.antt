@@ -39,18 +39,18 @@ count-or-and n p q =
     ∙ sum-ext n (λ k. one-if (p k) + one-if (q k)) (λ k. one-if (p k || q k) + one-if (p k && q k)) (λ k l. omega (arith, one-modular (p k) (q k)))
     ∙ sum-add n (λ k. one-if (p k || q k)) (λ k. one-if (p k && q k))
 
-one-le : (a b : Bool) → (a ≡ true → b ≡ true) → one-if a ≤ one-if b
+pub one-mono : (a b : Bool) → (a ≡ true → b ≡ true) → one-if a ≤ one-if b
 unfolding one-if
-one-le true b h = rw (h refl) (omega arith)
-one-le false b h = omega arith
+one-mono true b h = rw (h refl) (omega arith)
+one-mono false b h = omega arith
 
 pub count-ext : (n : ℕ) (p q : ℕ → Bool) → ((k : ℕ) → k < n → p k ≡ q k) → count-below n p ≡ count-below n q
 unfolding count-below
 count-ext n p q h = sum-ext n (λ k. one-if (p k)) (λ k. one-if (q k)) (λ k l. ap one-if (h k l))
 
-pub count-le : (n : ℕ) (p q : ℕ → Bool) → ((k : ℕ) → k < n → p k ≡ true → q k ≡ true) → count-below n p ≤ count-below n q
+pub count-mono : (n : ℕ) (p q : ℕ → Bool) → ((k : ℕ) → k < n → p k ≡ true → q k ≡ true) → count-below n p ≤ count-below n q
 unfolding count-below
-count-le n p q h = sum-le n (λ k. one-if (p k)) (λ k. one-if (q k)) (λ k l. one-le (p k) (q k) (h k l))
+count-mono n p q h = sum-le n (λ k. one-if (p k)) (λ k. one-if (q k)) (λ k l. one-mono (p k) (q k) (h k l))
 
 pub count-none : (n : ℕ) (p : ℕ → Bool) → ((k : ℕ) → k < n → p k ≡ false) → count-below n p ≡ 0
 unfolding count-below one-if

@@ -1,13 +1,13 @@
 -- Finite search decides, and sums add place by place. Assumes nothing.
 use mathlib.Core.Path.{_≡_, refl, sym, ap, _∙_}
-use mathlib.Core.Bool.{Bool, true, false, _&&_, _||_, not, cond}
+use mathlib.Core.Bool.{Bool, true, false, cond}
 use mathlib.Core.Logic.{_⊎_, inl, inr, ⊎-elim}
-use Prim.Native.Nat.{ℕ, zero, suc, _+_, _*_, _<_, _≤_}
+use Prim.Native.Nat.{ℕ, zero, suc, _+_, _<_, _≤_}
 use native.Mathlib.Omega.{arith}
 use lib.Dec.{eqb}
 use borrow.Author.Tests.{eq-eqb, ne-eqb}
-use Rattle.laws.specs.Finite.{all-below, any-below, sum-below, one-if, count-below}
-use Rattle.laws.proofs.Booleans.{by-bool, clash, and-l, and-r, and-i, and-false-cases, or-cases, or-l, or-r, or-false-l, or-false-r, cond-true, cond-false}
+use Rattle.laws.specs.Finite.{all-below, any-below, sum-below}
+use Rattle.laws.proofs.Booleans.{by-bool, clash, and-l, and-r, and-i, or-cases, or-l, or-r, cond-true, cond-false}
 
 -- k below suc n is n, or below n
 pub last-or-below : (k n : ℕ) → k < suc n → (k ≡ n) ⊎ (k < n)

@@ -6,31 +6,17 @@ use Prim.Native.Nat.{ℕ, zero, suc, _^_, _<_, _≤_}
 use native.Mathlib.Nat.{pow-suc}
 use native.Mathlib.Omega.{arith}
 use borrow.Author.Tests.{not-true}
-use Rattle.laws.specs.Finite.{sum-below, one-if, count-below}
-use Rattle.laws.proofs.Booleans.{by-bool, clash, and-l, and-r, and-i, bool-ext, cond-true, cond-false}
-use Rattle.laws.proofs.Finite.{last-or-below, decide-below, sum-le}
-
-pub one-if-true : (b : Bool) → b ≡ true → one-if b ≡ 1
-unfolding one-if
-one-if-true b e = cond-true b 1 0 e
-
-pub one-if-false : (b : Bool) → b ≡ false → one-if b ≡ 0
-unfolding one-if
-one-if-false b e = cond-false b 1 0 e
-
-one-if-le : (a b : Bool) → (a ≡ true → b ≡ true) → one-if a ≤ one-if b
-one-if-le a b f =
-    by-bool a (λ e. omega (arith, one-if-true a e, one-if-true b (f e))) (λ e. omega (arith, one-if-false a e))
+use Rattle.laws.specs.Finite.{sum-below, count-below}
+use Rattle.laws.proofs.Booleans.{by-bool, clash, and-l, and-r, and-i, bool-ext}
+use Rattle.laws.proofs.Connectives.{one-true, one-false}
+use Rattle.laws.proofs.Counts.{one-mono, count-mono}
+use Rattle.laws.proofs.Finite.{last-or-below, decide-below}
 
 pub count-le : (n : ℕ) (p : ℕ → Bool) → count-below n p ≤ n
 unfolding count-below sum-below
 count-le zero p = omega arith
 count-le (suc n) p =
-    by-bool (p n) (λ e. omega (arith, one-if-true (p n) e, count-le n p)) (λ e. omega (arith, one-if-false (p n) e, count-le n p))
-
-pub count-mono : (n : ℕ) (p q : ℕ → Bool) → ((k : ℕ) → k < n → p k ≡ true → q k ≡ true) → count-below n p ≤ count-below n q
-unfolding count-below
-count-mono n p q f = sum-le n (λ k. one-if (p k)) (λ k. one-if (q k)) (λ k l. one-if-le (p k) (q k) (f k l))
+    by-bool (p n) (λ e. omega (arith, one-true (p n) e, count-le n p)) (λ e. omega (arith, one-false (p n) e, count-le n p))
 
 -- one more passes
 pub count-less : (n : ℕ) (p q : ℕ → Bool) → ((k : ℕ) → k < n → p k ≡ true → q k ≡ true)
@@ -39,8 +25,8 @@ unfolding count-below sum-below
 count-less zero p q f k l a b = absurd (omega arith)
 count-less (suc n) p q f k l a b =
     ⊎-elim
-    (λ (e : k ≡ n). omega (arith, one-if-false (p n) (sym (ap p e) ∙ a), one-if-true (q n) (sym (ap q e) ∙ b), count-mono n p q (λ i m. f i (omega arith))))
-    (λ (m : k < n). omega (arith, count-less n p q (λ i o. f i (omega arith)) k m a b, one-if-le (p n) (q n) (f n (omega arith))))
+    (λ (e : k ≡ n). omega (arith, one-false (p n) (sym (ap p e) ∙ a), one-true (q n) (sym (ap q e) ∙ b), count-mono n p q (λ i m. f i (omega arith))))
+    (λ (m : k < n). omega (arith, count-less n p q (λ i o. f i (omega arith)) k m a b, one-mono (p n) (q n) (f n (omega arith))))
     (last-or-below k n l)
 
 pub same-or-less : (n : ℕ) (p q : ℕ → Bool) → ((k : ℕ) → k < n → p k ≡ true → q k ≡ true)

@@ -7,6 +7,7 @@ pub mod Growth
 pub mod First
 pub mod DoubleSums
 pub mod Numbers
+pub mod Signs
 pub mod Twice
 pub mod Lists
 pub mod Agree

@@ -1,9 +1,9 @@
--- A test that everything in a list passes gives a property of each, and lists that pass the test of sameness are equal. Assumes nothing.
+-- A test that everything in a list passes gives a property of each, lists that pass the test of sameness are equal, and a list of one value has it everywhere. Assumes nothing.
 use mathlib.Core.Path.{_≡_, refl}
 use mathlib.Core.Bool.{Bool, true}
 use mathlib.Core.List.{List, [], _∷_}
 use Prim.Native.Nat.{ℕ, zero, suc}
-use lib.ListN.{getD}
+use lib.ListN.{getD, replicate}
 use Rattle.laws.specs.Lists.{all-in, all-of, Each, same-list}
 use Rattle.laws.proofs.Booleans.{clash, and-l, and-r}
 
@@ -28,3 +28,9 @@ same-list-true same law (x ∷ xs) (y ∷ ys) t =
     let first = law x y (and-l (same x y) (same-list same xs ys) t) in
     let rest = same-list-true same law xs ys (and-r (same x y) (same-list same xs ys) t) in
     cc
+
+-- past the end too, where that value stands for what is missing
+pub replicate-at : {A : Type 0} (n i : ℕ) (d : A) → getD (replicate n d) i d ≡ d
+replicate-at zero i d = refl
+replicate-at (suc n) zero d = refl
+replicate-at (suc n) (suc i) d = replicate-at n i d

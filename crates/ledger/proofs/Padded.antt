@@ -3,23 +3,16 @@ use mathlib.Core.Path.{_≡_, _∙_}
 use mathlib.Core.List.{List}
 use Prim.Native.Nat.{ℕ, _+_, _-_, _≤_, _<_}
 use native.Mathlib.Omega.{arith}
-use lib.Dec.{ltb}
-use lib.ListN.{getD, set, replicate, length-set, length-replicate, getD-replicate, List·getD-eq-default}
+use lib.ListN.{getD, set, replicate, length-set, length-replicate}
 use lib.Seq.{getD-set-same, getD-set-other}
 use borrow.Author.Count.{below-more}
-use borrow.Author.Tests.{ltb-true, ltb-false}
-use Rattle.laws.proofs.Booleans.{by-bool}
+use Rattle.laws.proofs.Lists.{replicate-at}
 use Rattle.columns.specs.Columns.{at}
 use Rattle.ledger.specs.Padded.{Padded}
 
-zeros-at : (n i : ℕ) → getD {A = ℕ} (replicate n 0) i 0 ≡ 0
-zeros-at n i =
-    by-bool (ltb i n) (λ e. getD-replicate {A = ℕ} n i 0 0 (ltb-true i n e))
-    (λ e. List·getD-eq-default {A = ℕ} (replicate n 0) 0 (omega (arith, ltb-false i n e, length-replicate {A = ℕ} n 0)))
-
 module _ (size : ℕ) (f : ℕ → ℕ) where
   pub padded-none : Padded size f 0 (replicate size 0)
-  padded-none = record { long = length-replicate {A = ℕ} size 0; first = λ i l. absurd (omega arith); rest = λ i l. zeros-at size i }
+  padded-none = record { long = length-replicate {A = ℕ} size 0; first = λ i l. absurd (omega arith); rest = λ i l. replicate-at {A = ℕ} size i 0 }
 
   pub padded-more : (k : ℕ) (column : List ℕ) (v : ℕ) → k < size → v ≡ f k → Padded size f k column → Padded size f (k + 1) (set column k v)
   padded-more k column v l e g = record {
@@ -33,12 +26,6 @@ module _ (size : ℕ) (f : ℕ → ℕ) where
   module _ (k : ℕ) (column : List ℕ) (g : Padded size f k column) where
     pub padded-all : (m : ℕ) → k ≤ m → m ≤ k → Padded size f m column
     padded-all m l o = let e : k ≡ m = omega arith in rw e at g
-
-    -- a bound of the first places is one of all
-    pub padded-most : (b : ℕ) → ((i : ℕ) → i < k → f i ≤ b) → (i : ℕ) → getD column i 0 ≤ b
-    padded-most b most i =
-        by-bool (ltb i k) (λ e. let l = ltb-true i k e in omega (arith, g .first i l, most i l))
-        (λ e. omega (arith, g .rest i (ltb-false i k e)))
 
     -- by number, from 1
     pub padded-at : (i : ℕ) → 1 ≤ i → i ≤ k → at column i ≡ f (i - 1)

@@ -1,5 +1,5 @@
 -- Document 03's tight neighbourhood, met over all sets, is the set of junctions that are not separated. Assumes nothing.
-use mathlib.Core.Path.{_≡_, refl, sym, ap, _∙_}
+use mathlib.Core.Path.{_≡_, sym, ap, _∙_}
 use mathlib.Core.Bool.{Bool, true, false, _&&_, not, cond}
 use mathlib.Core.List.{List}
 use Prim.Native.Nat.{ℕ, zero, suc, _+_, _-_, _^_, _<_, _≤_}
@@ -9,15 +9,14 @@ use lib.Dec.{eqb}
 use lib.Pow.{pow-pos}
 use borrow.Author.Tests.{eqb-true, eq-eqb, eqb-false, le-leb, not-true}
 use Rattle.laws.proofs.Booleans.{by-bool, clash, and-l, and-r, and-i, bool-ext, not-true-false, cond-true, cond-false}
-use Rattle.laws.specs.Finite.{one-if}
-use Rattle.laws.proofs.Finite.{sum-ext}
 use Rattle.laws.proofs.Agree.{any-ext}
 use Rattle.junctions.specs.Sets.{holds, full, gather, both-from, both}
 use Rattle.junctions.proofs.Gather.{gather-ext}
 use Rattle.junctions.proofs.Sets.{gather-holds, gather-lt, full-holds, sets-ext}
-use Rattle.hall.specs.Hall.{Hall, row, count, enters, is-cut, is-choice, entering, member, tight, tight-from, tight-around}
+use Rattle.hall.specs.Hall.{Hall, count, is-cut, is-choice, entering, member, tight, tight-from, tight-around}
 use Rattle.dicuts.specs.Shores.{Tight, cover, once, sep, around}
 use Rattle.dicuts.proofs.Shores.{cut-shore, shore-cut, shore-lt, sep-true, true-sep, around-holds, around-lt}
+use Rattle.dicuts.proofs.Same.{cover-same}
 use Rattle.dicuts.proofs.Choices.{entering-cover}
 
 -- the junctions of both sets, gathered from the other end
@@ -134,17 +133,10 @@ module _ (h : Hall) (c : List ℕ) (j : ℕ) where
             let g = sep-true h (once (λ i. member i c)) j u t in
             clash (left-in (2 ^ h .n) 0 (2 ^ h .n - 1) u l m e .1 (g .set) (omega arith) (omega (arith, shore-lt h (g .set) (g .tight .shore))) (tight-is (g .set) (g .tight)) (g .has)) (g .lacks))
 
--- sets of rows that agree on the hall's rows have the same covers and neighbourhoods
-module _ (h : Hall) (F G : ℕ → Bool) (same : (i : ℕ) → 1 ≤ i → i ≤ count h → F i ≡ G i) where
-  pub cover-agree : (s : ℕ) → cover h (once F) s ≡ cover h (once G) s
-  unfolding cover once
-  cover-agree s =
-      sum-ext (count h) (λ k. cond (enters s (row h (suc k))) (one-if (F (suc k))) 0) (λ k. cond (enters s (row h (suc k))) (one-if (G (suc k))) 0)
-      (λ k l. ap (λ (b : Bool). cond (enters s (row h (suc k))) (one-if b) 0) (same (suc k) (omega arith) (omega arith)))
-
-  pub around-agree : (v : ℕ) → around h (once F) v ≡ around h (once G) v
-  unfolding around sep
-  around-agree v =
-      gather-ext (h .n) (λ u. not (sep h (once F) v u)) (λ u. not (sep h (once G) v u)) (λ u l m. ap not
-      (any-ext (2 ^ h .n) (λ s. (is-cut h s && eqb (cover h (once F) s) 1) && (holds s v && not (holds s u))) (λ s. (is-cut h s && eqb (cover h (once G) s) 1) && (holds s v && not (holds s u)))
-      (λ s k. ap (λ (d : ℕ). (is-cut h s && eqb d 1) && (holds s v && not (holds s u))) (cover-agree s))))
+-- sets of rows that agree on the hall's rows have the same neighbourhoods
+pub around-agree : (h : Hall) (F G : ℕ → Bool) → ((i : ℕ) → 1 ≤ i → i ≤ count h → F i ≡ G i) → (v : ℕ) → around h (once F) v ≡ around h (once G) v
+unfolding around sep
+around-agree h F G same v =
+    gather-ext (h .n) (λ u. not (sep h (once F) v u)) (λ u. not (sep h (once G) v u)) (λ u l m. ap not
+    (any-ext (2 ^ h .n) (λ s. (is-cut h s && eqb (cover h (once F) s) 1) && (holds s v && not (holds s u))) (λ s. (is-cut h s && eqb (cover h (once G) s) 1) && (holds s v && not (holds s u)))
+    (λ s k. ap (λ (d : ℕ). (is-cut h s && eqb d 1) && (holds s v && not (holds s u))) (cover-same h F G same s))))

@@ -11,7 +11,7 @@ use Rattle.laws.specs.Finite.{sum-below, one-if}
 use Rattle.laws.proofs.Booleans.{by-bool, clash, and-l, and-r, and-i, not-true-false, cond-true, cond-false}
 use Rattle.laws.proofs.Connectives.{one-le}
 use Rattle.laws.proofs.Finite.{decide-below, sum-ext, sum-add, sum-one, sum-zero}
-use Rattle.laws.proofs.Growth.{one-if-true, one-if-false}
+use Rattle.laws.proofs.Connectives.{one-true, one-false}
 use Rattle.junctions.specs.Sets.{holds, full, Within}
 use Rattle.junctions.proofs.Sets.{within-full, gather-lt}
 use Rattle.junctions.proofs.Bounds.{within-full-lt}
@@ -105,7 +105,7 @@ module _ (h : Hall) (F : ℕ → Bool) (f : ℕ) (low : 1 ≤ f) (high : f ≤ c
   pub tight-sealed : Tight h (once F) s → F f ≡ true → enters s (row h f) ≡ true → Sealed h (without F f) s
   unfolding once
   tight-sealed t chosen e =
-      let one : cond (enters s (row h f)) (one-if (F f)) 0 ≡ 1 = cond-true (enters s (row h f)) (one-if (F f)) 0 e ∙ one-if-true (F f) chosen in
+      let one : cond (enters s (row h f)) (one-if (F f)) 0 ≡ 1 = cond-true (enters s (row h f)) (one-if (F f)) 0 e ∙ one-true (F f) chosen in
       cover-sealed h (without F f) s (t .shore) (omega (arith, cover-without, t .one))
 
 -- some chosen row enters a tight shore
@@ -123,7 +123,7 @@ tight-row h F s t =
     λ k l.
     by-bool (enters s (row h (suc k)))
     (λ e. cond-true (enters s (row h (suc k))) (one-if (F (suc k))) 0 e
-    ∙ one-if-false (F (suc k)) (not-true-false (F (suc k)) (λ q. clash (and-i (enters s (row h (suc k))) (F (suc k)) e q) (none k l))))
+    ∙ one-false (F (suc k)) (not-true-false (F (suc k)) (λ q. clash (and-i (enters s (row h (suc k))) (F (suc k)) e q) (none k l))))
     (λ e. cond-false (enters s (row h (suc k))) (one-if (F (suc k))) 0 e) in
     absurd (omega (arith, sum-zero (count h) (λ k. cond (enters s (row h (suc k))) (one-if (F (suc k))) 0) zero-at, t .one)))
 

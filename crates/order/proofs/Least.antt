@@ -66,11 +66,17 @@ after-least before a l p (inl w) =
       },
     )
 
--- what starts no earlier ascends from there, and from before
+-- what ascends from a number ascends with one before it, and from any earlier number
 pub ascends-cons : (a l x : ℕ) (xs : List ℕ) → a ≤ x → x ≤ l → ascends-from (suc x) l xs ≡ true → ascends-from a l (x ∷ xs) ≡ true
 unfolding ascends-from
 ascends-cons a l x xs low high rest =
     and-i (leb a x && leb x l) (ascends-from (suc x) l xs) (and-i (leb a x) (leb x l) (le-leb a x low) (le-leb x l high)) rest
+
+pub ascends-earlier : (a b l : ℕ) (d : List ℕ) → a ≤ b → ascends-from b l d ≡ true → ascends-from a l d ≡ true
+unfolding ascends-from
+ascends-earlier a b l [] h e = refl
+ascends-earlier a b l (x ∷ xs) h e =
+    ascends-cons a l x xs (omega (arith, ascends-low b l x xs e)) (ascends-high b l x xs e) (ascends-rest b l x xs e)
 
 -- an ascending list from a begins with a, or ascends from suc a
 pub split-first : (a l : ℕ) (p : List ℕ → Bool) (d : List ℕ) → Passes a l p d → Passes (suc a) l p d ⊎ After a l p d
@@ -83,15 +89,8 @@ split-first a l p (x ∷ xs) t =
     by-bool (eqb a x) (λ e. let q : a ≡ x = eqb-true a x e in inr (xs, rw q refl, (rw q rest, rw q (t .1))))
     (λ e. let ne = eqb-false a x e in inl (ascends-cons (suc a) l x xs (omega arith) high rest, t .1))
 
-ascends-before : (a l : ℕ) (d : List ℕ) → ascends-from (suc a) l d ≡ true → ascends-from a l d ≡ true
-unfolding ascends-from
-ascends-before a l [] e = refl
-ascends-before a l (x ∷ xs) e =
-    let low = ascends-low (suc a) l x xs e in
-    ascends-cons a l x xs (omega arith) (ascends-high (suc a) l x xs e) (ascends-rest (suc a) l x xs e)
-
 join-first : (a l : ℕ) (p : List ℕ → Bool) (d : List ℕ) → a ≤ l → Passes (suc a) l p d ⊎ After a l p d → Passes a l p d
-join-first a l p d h (inl t) = (ascends-before a l d (t .0), t .1)
+join-first a l p d h (inl t) = (ascends-earlier a (suc a) l d (omega arith) (t .0), t .1)
 join-first a l p d h (inr t) = rw (t .1) (ascends-cons a l a (t .0) (omega arith) h (t .2 .0), t .2 .1)
 
 pub only-empty : (l : ℕ) (d : List ℕ) → ascends-from (suc l) l d ≡ true → d ≡ []

@@ -20,10 +20,6 @@ use Rattle.planner.proofs.Starts.{flat-start, flat-slack, flat-repairable, rank
 use Rattle.ledger.specs.Padded.{Padded, Priced}
 use Rattle.plan.specs.Ready.{Ready, Settled}
 
--- a place below the count is a row's
-row-place : (i : ℕ) → 1 ≤ i → suc (i - 1) ≡ i
-row-place i l = omega arith
-
 -- a settled potential is low
 pub level-low : (h : Hall) (potential : List ℕ) (chosen : List Bool) → Settled h potential chosen → (k : ℕ) → k < 64 → getD potential k 0 < 2 ^ 32
 level-low h potential chosen set k l =

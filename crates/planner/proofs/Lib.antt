@@ -6,7 +6,6 @@ pub mod Rooms
 pub mod Lifts
 pub mod Raising
 pub mod Flips
-pub mod Same
 pub mod Walks
 pub mod Steps
 pub mod Repairing

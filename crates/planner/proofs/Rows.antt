@@ -16,6 +16,7 @@ use Rattle.junctions.specs.Sets.{holds}
 use Rattle.junctions.proofs.Sets.{or-holds, none-holds}
 use Rattle.hall.specs.Hall.{Hall, row, count}
 use Rattle.columns.specs.Columns.{at, flagged, Ends, Columns}
+use Rattle.columns.proofs.Places.{place-tail, place-head}
 use Rattle.potentials.specs.Potential.{gap}
 use Rattle.potentials.specs.ZeroGraph.{opens, closes}
 use Rattle.potentials.proofs.Arcs.{opens-true, true-opens, closes-true, true-closes}
@@ -56,10 +57,10 @@ module _ (h : Hall) (n m : ℕ) (tails heads costs : List ℕ) (movable chosen :
   high = omega (arith, cols .rows)
 
   pub from-here : row h (suc k) .from ≡ suc a
-  from-here = sym (cols .tail (suc k) (omega arith) less) ∙ ap (λ (i : ℕ). getD tails i 0) (place-back k) ∙ sym tail-is
+  from-here = sym (place-tail h n m tails heads cols k less) ∙ sym tail-is
 
   pub to-here : row h (suc k) .to ≡ suc b
-  to-here = sym (cols .head (suc k) (omega arith) less) ∙ ap (λ (i : ℕ). getD heads i 0) (place-back k) ∙ sym head-is
+  to-here = sym (place-head h n m tails heads cols k less) ∙ sym head-is
 
   pub free-here : flagged movable (suc k) ≡ getD movable k false
   free-here = ap (λ (i : ℕ). getD movable i false) (place-back k)

@@ -1,60 +1,33 @@
 -- A step of repair: what is reached is raised, or the route is flipped; either way what repair keeps is kept, and the slack falls. Assumes nothing.
-use mathlib.Core.Path.{_≡_, refl, sym, subst, _∙_}
+use mathlib.Core.Path.{_≡_, refl, sym, subst}
 use mathlib.Core.Bool.{Bool, true, false}
 use mathlib.Core.List.{List}
-use Prim.Native.Nat.{ℕ, suc, _+_, _-_, _^_, _≤_, _<_}
+use Prim.Native.Nat.{ℕ, _+_, _-_, _^_, _≤_, _<_}
 use native.Mathlib.Omega.{arith}
 use lib.Dec.{ltb}
-use lib.ListN.{getD}
 use lib.Pow.{pow-lt}
-use borrow.Author.Tests.{eq-eqb, ltb-true}
+use borrow.Author.Tests.{ltb-true}
 use Rattle.laws.proofs.Booleans.{and-l, and-r}
-use Rattle.junctions.specs.Sets.{holds, Within}
-use Rattle.junctions.proofs.Sets.{one-holds}
+use Rattle.junctions.specs.Sets.{holds}
 use Rattle.digraph.specs.Adjacency.{out-of}
-use Rattle.digraph.specs.Distances.{near}
-use Rattle.digraph.specs.Paths.{Distances}
 use Rattle.digraph.specs.Reach.{Closed, Reach}
 use Rattle.digraph.proofs.Closure.{reach-narrow, reach-narrow-lt}
-use Rattle.digraph.proofs.Paths.{near-holds, near-reach}
 use Rattle.digraph.proofs.Same.{closed-same}
 use Rattle.hall.specs.Hall.{Hall, row, count}
-use Rattle.dicuts.specs.Shores.{Ranged, once}
-use Rattle.columns.specs.Columns.{at, Columns, Neighbourhoods}
+use Rattle.dicuts.specs.Shores.{Ranged}
+use Rattle.columns.specs.Columns.{Neighbourhoods}
 use Rattle.potentials.specs.Potential.{Under, gap, slack}
 use Rattle.potentials.specs.ZeroGraph.{zero-arcs, Under-on, raised, Raisable}
 use Rattle.potentials.specs.Flip.{Turns, Flip}
 use Rattle.potentials.specs.Repair.{Repairable}
 use Rattle.potentials.proofs.Arcs.{zero-arcs-lt}
 use Rattle.potentials.proofs.Raise.{raised-under, raised-parted}
+use Rattle.potentials.proofs.Same.{slack-same, repairable-same}
 use Rattle.potentials.proofs.Slack.{slack-raised, raised-bound, slack-flipped}
 use Rattle.planner.specs.Zero.{Zero-graph}
 use Rattle.planner.specs.Rooms.{Room, Raised-for}
 use Rattle.planner.specs.Flips.{turning}
 use Rattle.planner.specs.Repairs.{short, Free, Stepped}
-use Rattle.planner.proofs.Same.{levels-under, levels-parted, levels-slack}
-
--- the ends of the row at a place
-module _ (h : Hall) (n m : ℕ) (tails heads : List ℕ) (cols : Columns h n m tails heads) (k : ℕ) (less : k < m) where
-  pub place-tail : getD tails k 0 ≡ row h (suc k) .from
-  place-tail = let back : suc k - 1 ≡ k = omega arith in rw back at (cols .tail (suc k) (omega arith) less)
-
-  pub place-head : getD heads k 0 ≡ row h (suc k) .to
-  place-head = let back : suc k - 1 ≡ k = omega arith in rw back at (cols .head (suc k) (omega arith) less)
-
--- what is reached among the 64 junctions is at a distance
-pub reached-near :
-    (out : ℕ → ℕ) (start reached : ℕ) (dist : ℕ → ℕ) → 1 ≤ start → start ≤ 64 → ((j : ℕ) → out j < 2 ^ 64) → Distances 64 out start dist →
-    Reach 64 out (2 ^ (start - 1)) reached → (j : ℕ) → 1 ≤ j → j ≤ 64 → holds reached j ≡ true → dist j < 64
-unfolding Within
-reached-near out start reached dist low high ranged d reach j l u t =
-    let around : Reach 64 out (2 ^ (start - 1)) (near 64 dist) = near-reach 64 out start dist d low high (λ i li ui. ranged i) in
-    ltb-true (dist j) 64 (sym (near-holds 64 out start dist d j l u) ∙ reach .least (near 64 dist) (around .contains) (around .closed) j l t)
-
--- a start is reached
-pub start-reached : (out : ℕ → ℕ) (start reached : ℕ) → 1 ≤ start → Reach 64 out (2 ^ (start - 1)) reached → holds reached start ≡ true
-unfolding Within
-start-reached out start reached low reach = reach .contains start low (one-holds start start low low ∙ eq-eqb start start refl)
 
 module _ (h : Hall) (m : ℕ → Bool) (c p : ℕ → ℕ) (F : ℕ → Bool) where
   -- what is reached in the zero graph
@@ -99,13 +72,13 @@ module _ (h : Hall) (m : ℕ → Bool) (c p : ℕ → ℕ) (F : ℕ → Bool) wh
         let less : slack h c (raised z e p) F + e ≤ slack h c p F = slack-raised h rg m c p F z e closed able (λ k lk uk t. free k lk uk) i l u row-chosen out into in
         let same : (j : ℕ) → 1 ≤ j → j ≤ h .n → raised z e p j ≡ q j = λ j lj uj. sym (to .2 j lj (omega arith)) in
         let under : Under-on h m c (raised z e p) = raised-under h rg m c p F z e able under-movable in
-        let lower : slack h c (raised z e p) F ≡ slack h c q F = levels-slack h rg (raised z e p) q same c F in
+        let lower : slack h c (raised z e p) F ≡ slack h c q F = slack-same h rg c c (λ k lk uk. refl) (raised z e p) q same F F (λ k lk uk. refl) in
         record {
-          repairable = record {
+          repairable = repairable-same h rg c c (λ k lk uk. refl) (raised z e p) q same F F (λ k lk uk. refl) (record {
             joining = start .joining;
-            under = levels-under h rg (raised z e p) q same c (λ k lk uk. under k lk uk (free k lk uk));
-            parted = levels-parted h rg (raised z e p) q same (once F) (raised-parted h rg m c p F z e able (start .parted));
-          };
+            under = λ k lk uk. under k lk uk (free k lk uk);
+            parted = raised-parted h rg m c p F z e able (start .parted);
+          });
           around = around;
           less = omega (arith, less, some, lower);
           bound = λ j lj uj. omega (arith, to .2 j lj uj, lower, raised-bound h rg m c p F z e j less);

@@ -9,15 +9,16 @@ use Rattle.digraph.specs.Adjacency.{out-of}
 use Rattle.digraph.specs.Paths.{Distances}
 use Rattle.hall.specs.Hall.{Hall, row}
 use Rattle.dicuts.specs.Shores.{once, Joining}
+use Rattle.joining.proofs.Joining.{joining-mono}
 use Rattle.columns.specs.Columns.{at, flagged}
 use Rattle.potentials.specs.Potential.{Parted}
 use Rattle.potentials.specs.ZeroGraph.{zero-arcs}
 use Rattle.potentials.specs.Flip.{Leg, Turns, put, after, flipped, Flip}
 use Rattle.potentials.proofs.Flip.{flip-keeps}
+use Rattle.potentials.proofs.Same.{parted-same}
 use Rattle.potentials.proofs.Weights.{put-same}
 use Rattle.planner.specs.Zero.{Zero-graph}
 use Rattle.planner.specs.Flips.{Same-rows, Walked, turning}
-use Rattle.planner.proofs.Same.{joining-same, parted-same}
 
 -- a leg that turns puts its row in, or takes it out
 after-turning : (b : Bool) (i w : ℕ) (F : ℕ → Bool) → after (turning b i w) F ≡ put i b F
@@ -50,8 +51,8 @@ module _ (h : Hall) (movable chosen : List Bool) (costs potential : List ℕ) wh
   unfolding row
   flip-flags G result same flip =
       record {
-        joining = joining-same h G (flagged result) (λ k l. sym (same k l)) (flip .joining);
-        parted = parted-same h G (flagged result) (λ k l. sym (same k l)) p (flip .parted);
+        joining = joining-mono h G (flagged result) (λ k l u e. same k l ∙ e) (flip .joining);
+        parted = parted-same h p p (λ j l u. refl) G (flagged result) (λ k l u. sym (same k l)) (flip .parted);
         fixed = fixed-all;
         new = new-all;
       }

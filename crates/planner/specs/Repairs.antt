@@ -14,12 +14,12 @@ use Rattle.potentials.specs.Repair.{Repairable, Repaired}
 unfoldable pub short : Hall → (c p : ℕ → ℕ) → (F : ℕ → Bool) → (i : ℕ) → Bool
 short h c p F i = F i && ltb (p (row h i .to)) (p (row h i .from) + c i)
 
--- place r is the first from place a on whose row is chosen and has a gap, or m where there is none below m
+-- place r is the first from place a on whose row is chosen and has a gap; where r is not below m, no row from a to m has one
 pub record First-short (h : Hall) (c p : ℕ → ℕ) (F : ℕ → Bool) (a m r : ℕ) : Type 0 where
   pub here : r < m → short h c p F (suc r) ≡ true
   pub earlier : (k : ℕ) → a ≤ k → k < r → short h c p F (suc k) ≡ false
 
--- place r is one below m whose row is chosen and has a gap, or there is none
+-- the row at place r is chosen and has a gap; where r is not below m, no row has one
 pub record Some-short (h : Hall) (c p : ℕ → ℕ) (F : ℕ → Bool) (m r : ℕ) : Type 0 where
   pub here : r < m → short h c p F (suc r) ≡ true
   pub none : m ≤ r → (k : ℕ) → k < m → short h c p F (suc k) ≡ false

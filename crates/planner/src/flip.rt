@@ -1,5 +1,5 @@
 // The flip of a route in the zero graph: the rows of its arcs are looked up and opened or closed.
-use crate::places::place;
+use junctions::place;
 ghost use mathlib.Core.Path.{_≡_};
 ghost use Prim.Native.Nat.{ℕ, suc, _≤_, _<_};
 ghost use lib.ListN.{length};

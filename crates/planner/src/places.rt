@@ -1,18 +1,10 @@
-// Places of junctions in an array of 64, from 0, and sets of one junction.
+// Numbers and places of junctions, from 1 and from 0, and sets of one junction.
 ghost use mathlib.Core.Path.{_≡_};
 ghost use mathlib.Core.Bool.{_&&_};
 ghost use Prim.Native.Nat.{ℕ, suc, _≤_, _<_};
 ghost use lib.Count.{trailingZeros};
 ghost use lib.Dec.{eqb};
 ghost use Rattle.junctions.specs.Sets.{holds};
-
-// The place of a junction.
-pub fn place(junction: u8) -> usize
-    requires { ⌜ (1 ≤ junction) × (junction ≤ 64) ⌝ }
-    ensures { λ r. ⌜ (suc r ≡ junction) × (r < 64) ⌝ }
-{
-    (junction as usize) - 1
-}
 
 // The number of a junction.
 pub fn number(junction: u8) -> usize

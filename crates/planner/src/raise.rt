@@ -1,7 +1,7 @@
 // How far a potential can be raised on a set, and the raise.
 use crate::places::has;
 use crate::places::lowest;
-use crate::places::place;
+use junctions::place;
 ghost use mathlib.Core.Path.{_≡_};
 ghost use mathlib.Core.Bool.{Bool, cond};
 ghost use Prim.Native.Nat.{ℕ, suc, _+_, _-_, _^_, _≤_, _<_, min};

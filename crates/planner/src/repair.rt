@@ -2,9 +2,9 @@
 use crate::flip::flip;
 use crate::places::has;
 use crate::places::number;
-use crate::places::place;
 use crate::raise::raise_for;
 use crate::zero::zero_graph;
+use junctions::place;
 ghost use mathlib.Core.Path.{_≡_};
 ghost use mathlib.Core.Bool.{true};
 ghost use Prim.Native.Nat.{ℕ, suc, _<_};

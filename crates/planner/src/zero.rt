@@ -1,7 +1,7 @@
 // The zero graph of a choice and a potential, as an adjacency.
 use crate::places::lone;
 use crate::places::lowest;
-use crate::places::place;
+use junctions::place;
 ghost use mathlib.Core.Path.{_≡_};
 ghost use mathlib.Core.Bool.{_&&_, cond};
 ghost use Prim.Native.Nat.{ℕ, _%_, _^_, _≤_, _<_};

@@ -1,39 +1,23 @@
 -- What is said of a set of rows, of costs and of a potential is said of any that are the same on the rows and junctions of the hall. Assumes nothing.
-use mathlib.Core.Path.{_≡_, sym, ap, _∙_}
+use mathlib.Core.Path.{_≡_, sym, ap, ap₂, _∙_}
 use mathlib.Core.Bool.{Bool, cond}
-use Prim.Native.Nat.{ℕ, suc, _≤_}
+use Prim.Native.Nat.{ℕ, suc, _+_, _-_, _≤_}
 use native.Mathlib.Omega.{arith}
-use Rattle.laws.specs.Finite.{one-if}
 use Rattle.laws.proofs.Finite.{sum-ext}
-use Rattle.hall.specs.Hall.{Hall, row, count, enters}
-use Rattle.dicuts.specs.Shores.{Ranged, Sep, cover, once}
+use Rattle.hall.specs.Hall.{Hall, row, count}
+use Rattle.dicuts.specs.Shores.{Ranged, once}
+use Rattle.dicuts.proofs.Same.{sep-same}
 use Rattle.joining.proofs.Joining.{joining-mono}
-use Rattle.potentials.specs.Potential.{Under, Paid, Parted, cost}
+use Rattle.potentials.specs.Potential.{Under, Paid, Parted, gap, slack, cost}
 use Rattle.potentials.specs.Repair.{Repairable, Repaired}
 use Rattle.potentials.specs.Compare.{Priced}
 
 -- the same rows
-module _ (h : Hall) (F G : ℕ → Bool) (same : (i : ℕ) → 1 ≤ i → i ≤ count h → F i ≡ G i) where
-  pub cover-same : (s : ℕ) → cover h (once F) s ≡ cover h (once G) s
-  unfolding cover once
-  cover-same s =
-      sum-ext (count h) (λ k. cond (enters s (row h (suc k))) (one-if (F (suc k))) 0) (λ k. cond (enters s (row h (suc k))) (one-if (G (suc k))) 0)
-      (λ k l. ap (λ (b : Bool). cond (enters s (row h (suc k))) (one-if b) 0) (same (suc k) (omega arith) (omega arith)))
-
-  pub sep-same : (v u : ℕ) → Sep h (once F) v u → Sep h (once G) v u
-  sep-same v u sep =
-      record {
-        set = sep .set;
-        tight = record { shore = sep .tight .shore; one = sym (cover-same (sep .set)) ∙ sep .tight .one };
-        has = sep .has;
-        lacks = sep .lacks;
-      }
-
-  pub cost-rows-same : (c : ℕ → ℕ) → cost h c F ≡ cost h c G
-  unfolding cost
-  cost-rows-same c =
-      sum-ext (count h) (λ k. cond (F (suc k)) (c (suc k)) 0) (λ k. cond (G (suc k)) (c (suc k)) 0)
-      (λ k l. ap (λ (b : Bool). cond b (c (suc k)) 0) (same (suc k) (omega arith) (omega arith)))
+pub cost-rows-same : (h : Hall) (F G : ℕ → Bool) → ((i : ℕ) → 1 ≤ i → i ≤ count h → F i ≡ G i) → (c : ℕ → ℕ) → cost h c F ≡ cost h c G
+unfolding cost
+cost-rows-same h F G same c =
+    sum-ext (count h) (λ k. cond (F (suc k)) (c (suc k)) 0) (λ k. cond (G (suc k)) (c (suc k)) 0)
+    (λ k l. ap (λ (b : Bool). cond b (c (suc k)) 0) (same (suc k) (omega arith) (omega arith)))
 
 -- the same costs
 pub cost-same : (h : Hall) (c d : ℕ → ℕ) → ((i : ℕ) → 1 ≤ i → i ≤ count h → c i ≡ d i) → (F : ℕ → Bool) → cost h c F ≡ cost h d F
@@ -41,6 +25,14 @@ unfolding cost
 cost-same h c d same F =
     sum-ext (count h) (λ k. cond (F (suc k)) (c (suc k)) 0) (λ k. cond (F (suc k)) (d (suc k)) 0)
     (λ k l. ap (λ (x : ℕ). cond (F (suc k)) x 0) (same (suc k) (omega arith) (omega arith)))
+
+-- the same levels and rows
+pub parted-same :
+    (h : Hall) (p q : ℕ → ℕ) → ((j : ℕ) → 1 ≤ j → j ≤ h .n → p j ≡ q j) → (F G : ℕ → Bool) → ((i : ℕ) → 1 ≤ i → i ≤ count h → F i ≡ G i) →
+    Parted h (once F) p → Parted h (once G) q
+unfolding Parted
+parted-same h p q levels F G rows parted v u lv kv lu ku less =
+    sep-same h F G rows v u (parted v u lv kv lu ku (omega (arith, levels v lv kv, levels u lu ku)))
 
 module _ (h : Hall) (rg : Ranged h) (c d : ℕ → ℕ) (costs : (i : ℕ) → 1 ≤ i → i ≤ count h → c i ≡ d i)
     (p q : ℕ → ℕ) (levels : (j : ℕ) → 1 ≤ j → j ≤ h .n → p j ≡ q j)
@@ -51,11 +43,6 @@ module _ (h : Hall) (rg : Ranged h) (c d : ℕ → ℕ) (costs : (i : ℕ) → 1
   to-same : (i : ℕ) → 1 ≤ i → i ≤ count h → p (row h i .to) ≡ q (row h i .to)
   to-same i l u = levels (row h i .to) (rg .to-low i l u) (rg .to-high i l u)
 
-  pub parted-same : Parted h (once F) p → Parted h (once G) q
-  unfolding Parted
-  parted-same parted v u lv kv lu ku less =
-      sep-same h F G rows v u (parted v u lv kv lu ku (omega (arith, levels v lv kv, levels u lu ku)))
-
   pub under-same : Under h c p → Under h d q
   unfolding Under
   under-same under i l u = omega (arith, under i l u, from-same i l u, to-same i l u, costs i l u)
@@ -64,12 +51,21 @@ module _ (h : Hall) (rg : Ranged h) (c d : ℕ → ℕ) (costs : (i : ℕ) → 1
   unfolding Paid
   paid-same paid i l u e = omega (arith, paid i l u (rows i l u ∙ e), from-same i l u, to-same i l u, costs i l u)
 
+  pub slack-same : slack h c p F ≡ slack h d q G
+  unfolding slack gap
+  slack-same =
+      sum-ext (count h) (λ k. cond (F (suc k)) (p (row h (suc k) .from) + c (suc k) - p (row h (suc k) .to)) 0)
+      (λ k. cond (G (suc k)) (q (row h (suc k) .from) + d (suc k) - q (row h (suc k) .to)) 0)
+      (λ k l.
+      ap₂ (λ (b : Bool) (x : ℕ). cond b x 0) (rows (suc k) (omega arith) (omega arith))
+      (omega (arith, from-same (suc k) (omega arith) (omega arith), to-same (suc k) (omega arith) (omega arith), costs (suc k) (omega arith) (omega arith))))
+
   pub repairable-same : Repairable h c p F → Repairable h d q G
   repairable-same start =
       record {
         joining = joining-mono h F G (λ i l u e. sym (rows i l u) ∙ e) (start .joining);
         under = under-same (start .under);
-        parted = parted-same (start .parted);
+        parted = parted-same h p q levels F G rows (start .parted);
       }
 
   pub repaired-same : Repaired h c p F → Repaired h d q G
@@ -78,7 +74,7 @@ module _ (h : Hall) (rg : Ranged h) (c d : ℕ → ℕ) (costs : (i : ℕ) → 1
         joining = joining-mono h F G (λ i l u e. sym (rows i l u) ∙ e) (done .joining);
         under = under-same (done .under);
         paid = paid-same (done .paid);
-        parted = parted-same (done .parted);
+        parted = parted-same h p q levels F G rows (done .parted);
       }
 
   pub priced-same :

@@ -4,7 +4,7 @@ use mathlib.Core.Bool.{Bool, true, cond}
 use Prim.Native.Nat.{ℕ, suc, _+_, _-_, _≤_, _<_}
 use Rattle.laws.specs.Finite.{sum-below}
 use Rattle.hall.specs.Hall.{Hall, row, count}
-use Rattle.dicuts.specs.Shores.{Sep, once}
+use Rattle.dicuts.specs.Shores.{Sep}
 
 -- P1: along each row the potential rises by at most the row's cost
 unfoldable pub Under : Hall → (c p : ℕ → ℕ) → Type 0

@@ -28,6 +28,7 @@ use Rattle.joining.proofs.Joining.{joining-mono, linked-joining}
 use Rattle.neighbours.specs.Removal.{without, Spared}
 use Rattle.neighbours.proofs.Removal.{drop-joins}
 use Rattle.columns.specs.Columns.{at, flagged, Ends, Columns, Arcs}
+use Rattle.columns.proofs.Places.{place-tail, place-head}
 use Rattle.adjacency.proofs.Arcs.{arcs-ext}
 use Rattle.pruning.specs.Backed.{Backed, Under}
 
@@ -201,12 +202,6 @@ module _ (fs : List Bool) (k : ℕ) where
         joining-mono h (without F (suc k)) G (λ i l u t. taken-out i l ∙ t) rest
 
 module _ (fs : List Bool) (k : ℕ) (h : Hall) (n m : ℕ) (ts hs : List ℕ) (cols : Columns h n m ts hs) (less : k < m) where
-  row-from : (i : ℕ) → i < m → getD ts i 0 ≡ row h (suc i) .from
-  row-from i l = let place : suc i - 1 ≡ i = omega arith in rw place at (cols .tail (suc i) (omega arith) l)
-
-  row-to : (i : ℕ) → i < m → getD hs i 0 ≡ row h (suc i) .to
-  row-to i l = let place : suc i - 1 ≡ i = omega arith in rw place at (cols .head (suc i) (omega arith) l)
-
   -- one of the rows makes the arc
   pub backed-by :
       (i : ℕ) → i < m →
@@ -217,7 +212,7 @@ module _ (fs : List Bool) (k : ℕ) (h : Hall) (n m : ℕ) (ts hs : List ℕ) (c
       let place : suc i - 1 ≡ i = omega arith in
       any-intro (count h) _ i (omega (arith, cols .rows))
       (or-r (eqb (row h (suc i) .from) (row h (suc k) .to) && eqb (row h (suc i) .to) (row h (suc k) .from)) _
-      (rw (place, sym (row-from i l), sym (row-to i l), sym (row-from k less), sym (row-to k less)) e))
+      (rw (place, sym (place-tail h n m ts hs cols i l), sym (place-head h n m ts hs cols i l), sym (place-tail h n m ts hs cols k less), sym (place-head h n m ts hs cols k less)) e))
 
   -- a row runs from the head to the tail: an arc that is there with no row flagged
   pub backed-forward :
@@ -226,8 +221,8 @@ module _ (fs : List Bool) (k : ℕ) (h : Hall) (n m : ℕ) (ts hs : List ℕ) (c
   unfolding Backed Arcs
   backed-forward rg flags none sets are p q head tail has =
       let place : suc p - 1 ≡ p = omega arith in
-      let to : suc p ≡ row h (suc k) .to = head ∙ row-to k less in
-      let from : suc q ≡ row h (suc k) .from = tail ∙ row-from k less in
+      let to : suc p ≡ row h (suc k) .to = head ∙ place-head h n m ts hs cols k less in
+      let from : suc q ≡ row h (suc k) .from = tail ∙ place-tail h n m ts hs cols k less in
       let high : suc p ≤ h .n = rw to (rg .to-high (suc k) (omega arith) (omega (arith, cols .rows))) in
       let led : holds (arcs h (flagged flags) (suc p)) (suc q) ≡ true =
       ap (λ (z : ℕ). holds z (suc q)) (sym (are (suc p) (omega arith) high)) ∙ ap (λ (z : ℕ). holds (getD sets z 0) (suc q)) place ∙ has in
@@ -261,10 +256,10 @@ thinned-all h linked fs all sets is =
 module _ (fs : List Bool) (k : ℕ) (h : Hall) (rg : Ranged h) (n m : ℕ) (ts hs : List ℕ) (few : n ≤ 64) (cols : Columns h n m ts hs) (less : k < m)
     (sets : List ℕ) (size : length sets ≡ 64) (p q r : ℕ) (low : p < 64) (head : suc p ≡ getD hs k 0) (tail : suc q ≡ getD ts k 0) (so-far : Thinned h fs sets) where
   p-to : suc p ≡ row h (suc k) .to
-  p-to = head ∙ row-to fs k h n m ts hs cols less k less
+  p-to = head ∙ place-head h n m ts hs cols k less
 
   q-from : suc q ≡ row h (suc k) .from
-  q-from = tail ∙ row-from fs k h n m ts hs cols less k less
+  q-from = tail ∙ place-tail h n m ts hs cols k less
 
   pub turn-dropped :
       ((y : ℕ) → 1 ≤ y → holds r y ≡ true → (holds (getD sets p 0) y ≡ true) × (y ≡ suc q → Backed h (flagged (set fs k false)) (suc k))) →

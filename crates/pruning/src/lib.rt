@@ -1,4 +1,5 @@
 // A joining choice to start from: all rows, then each row is dropped, dearest first, if the others still join.
+use junctions::place;
 ghost use mathlib.Core.Path.{_≡_};
 ghost use mathlib.Core.Bool.{true, false};
 ghost use Prim.Native.Nat.{ℕ, suc, _≤_, _<_};
@@ -104,14 +105,6 @@ fn place_of(rank: u64, m: usize) -> usize
 {
     let place = (rank % 256) as usize;
     if place < m { place } else { 0 }
-}
-
-// The place of a junction.
-fn place(junction: u8) -> usize
-    requires { ⌜ (1 ≤ junction) × (junction ≤ 64) ⌝ }
-    ensures { λ r. ⌜ (suc r ≡ junction) × (r < 64) ⌝ }
-{
-    (junction as usize) - 1
 }
 
 // Rows that join a linked hall.

@@ -10,24 +10,25 @@ use Rattle.laws.specs.Finite.{any-below, count-below}
 use Rattle.laws.proofs.Booleans.{by-bool, clash, and-l, and-r, and-i, or-cases, or-l, not-true-false, bool-ext}
 use Rattle.laws.proofs.Finite.{any-intro}
 use Rattle.junctions.specs.Sets.{holds, Within}
-use Rattle.junctions.proofs.Sets.{gather-lt, sets-ext, within-full}
+use Rattle.junctions.proofs.Sets.{sets-ext, within-full}
 use Rattle.junctions.proofs.Bounds.{junction-le, within-full-lt}
 use Rattle.junctions.proofs.Members.{full-in}
 use Rattle.junctions.proofs.Single.{one-lt}
 use Rattle.digraph.specs.Reach.{Reach}
 use Rattle.digraph.specs.Closure.{closure}
-use Rattle.digraph.proofs.Closure.{closure-reach, closure-lt, reach-narrow}
+use Rattle.digraph.proofs.Closure.{closure-reach, closure-lt, reach-narrow, reach-widen}
+use Rattle.digraph.proofs.Same.{reach-alike}
 use Rattle.hall.specs.Hall.{Hall, row, count}
 use Rattle.dicuts.specs.Shores.{Ranged, once, Joining, around}
 use Rattle.dicuts.specs.Arcs.{arc, arcs}
 use Rattle.dicuts.proofs.Shores.{around-lt}
-use Rattle.joining.proofs.Sealed.{arcs-arc}
+use Rattle.joining.proofs.Sealed.{arcs-lt, arcs-arc}
 use Rattle.joining.proofs.Joining.{joining-reach}
 use Rattle.neighbours.specs.Removal.{without, Spared, Chosen}
 use Rattle.neighbours.proofs.Removal.{around-reached, reached-around}
 use Rattle.tight.specs.Solid.{forward, backward, solid}
 use Rattle.tight.specs.Robust.{cut, Robust, RobustSet}
-use Rattle.tight.proofs.Cut.{cut-holds, cut-lt, reach-alike, reach-widen}
+use Rattle.tight.proofs.Cut.{cut-holds, cut-lt}
 use Rattle.tight.proofs.Dropped.{arc-rows, dropped-solid, dropped-frail}
 
 -- a frail arc is the way back of a chosen row
@@ -64,12 +65,8 @@ module _ (h : Hall) (ranged : Ranged h) (F : ℕ → Bool) (joins : Joining h (o
   abbrev start : ℕ
   start = 2 ^ (v - 1)
 
-  arcs-lt : (G : ℕ → Bool) (x : ℕ) → arcs h G x < 2 ^ n
-  unfolding arcs
-  arcs-lt G x = gather-lt n (arc h G x)
-
   out-lt : (x : ℕ) → 1 ≤ x → x ≤ n → out x < 2 ^ n
-  out-lt x l m = rw (out-is x l m) (arcs-lt F x)
+  out-lt x l m = rw (out-is x l m) (arcs-lt h F x)
 
   -- over the adjacency all is reached
   all-reached : (s : ℕ) → Reach n out start s → (u : ℕ) → 1 ≤ u → u ≤ n → holds s u ≡ true
@@ -121,7 +118,7 @@ module _ (h : Hall) (ranged : Ranged h) (F : ℕ → Bool) (joins : Joining h (o
             (λ t.
             let hx : x ≤ n = leb-true x n (and-l (leb x n) (holds (out x) y) t) in
             let a : holds (arcs h F x) y ≡ true = sym (ap (λ (w : ℕ). holds w y) (out-is x lx hx)) ∙ and-r (leb x n) (holds (out x) y) t in
-            let hy : y ≤ n = junction-le n (arcs h F x) y (arcs-lt F x) a in
+            let hy : y ≤ n = junction-le n (arcs h F x) y (arcs-lt h F x) a in
             let frail : solid h F x y ≡ false = sym (firm-is x y lx hx ly hy) ∙ loose in
             let w = frail-row h F x y (arcs-arc h F x y ly a) frail in
             let f = w .0 in
@@ -145,7 +142,7 @@ module _ (h : Hall) (ranged : Ranged h) (F : ℕ → Bool) (joins : Joining h (o
       let few : start < 2 ^ n = one-lt n v v-low v-high in
       let spare = arcs h (without F f) in
       let s = closure n spare start in
-      let reach : Reach n spare start s = closure-reach n spare start few (λ j p q. arcs-lt (without F f) j) in
+      let reach : Reach n spare start s = closure-reach n spare start few (λ j p q. arcs-lt h (without F f) j) in
       let lx = ranged .to-low f (c .low) (c .high) in
       let hx = ranged .to-high f (c .low) (c .high) in
       let ly = ranged .from-low f (c .low) (c .high) in

@@ -1,18 +1,14 @@
 -- The lowest junction to do is expanded: what is to do then, and that fewer are left. Assumes nothing.
 use mathlib.Core.Path.{_≡_, sym, ap, _∙_}
 use mathlib.Core.Bool.{cond}
-use Prim.Native.Nat.{ℕ, _+_, _-_, _^_, _<_}
-use lib.Bits.{bitAnd, bitOr, bitXor}
+use Prim.Native.Nat.{ℕ, _+_, _^_, _<_}
+use lib.Bits.{bitOr}
 use lib.Count.{trailingZeros}
 use Rattle.laws.proofs.Booleans.{clash, cond-true, cond-false}
 use Rattle.junctions.specs.Sets.{holds, Within}
 use Rattle.junctions.proofs.Sets.{none-holds, lowest-is}
 use Rattle.digraph.specs.Search.{Searching, unexpanded}
-use Rattle.digraph.proofs.Expand.{expand-step, expand-less}
-
--- the junctions to do once the lowest is done, where it brings in what is found
-abbrev pub left-after : (seen todo found : ℕ) → ℕ
-left-after seen todo found = bitOr (bitAnd todo (todo - 1)) (bitXor found (bitAnd found seen))
+use Rattle.digraph.proofs.Expand.{left-after, expand-step, expand-less}
 
 -- as the search in which only the junctions to do have arcs
 module _ (seen todo found : ℕ) (some : 0 < todo) (fits : todo < 2 ^ 64) (pending : Within todo seen) where

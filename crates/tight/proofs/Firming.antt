@@ -2,7 +2,7 @@
 use mathlib.Core.Path.{_≡_, refl, sym, ap, ap₂, _∙_}
 use mathlib.Core.Bool.{Bool, true, false, _&&_, _||_, and-false, or-false, or-true}
 use mathlib.Core.List.{List}
-use Prim.Native.Nat.{ℕ, zero, suc, _+_, _-_, _*_, _%_, _^_, _≤_, _<_}
+use Prim.Native.Nat.{ℕ, suc, _+_, _-_, _*_, _%_, _^_, _≤_, _<_}
 use native.Mathlib.Nat.{add-zero}
 use native.Mathlib.Numerals.{add-one}
 use native.Mathlib.Omega.{arith}
@@ -15,11 +15,13 @@ use Rattle.laws.specs.Finite.{any-below, sum-below, count-below, one-if}
 use Rattle.laws.proofs.Booleans.{by-bool, clash, or-r, bool-ext}
 use Rattle.laws.proofs.Agree.{any-ext}
 use Rattle.laws.proofs.Counts.{count-ext}
+use Rattle.laws.proofs.Lists.{replicate-at}
 use Rattle.junctions.specs.Sets.{holds}
 use Rattle.junctions.proofs.Bits.{one-shl}
 use Rattle.junctions.proofs.Sets.{and-holds, or-holds, one-holds, none-holds}
-use Rattle.hall.specs.Hall.{Hall, row}
+use Rattle.hall.specs.Hall.{Hall}
 use Rattle.columns.specs.Columns.{at, flagged, Columns}
+use Rattle.columns.proofs.Places.{place-tail, place-head}
 use Rattle.tight.specs.Firming.{ahead, back, Firming}
 use Rattle.tight.specs.Solid.{forward, backward, solid, Firm}
 
@@ -48,11 +50,6 @@ grown-holds sets a more size la ma x y lx =
     (ap (λ (s : ℕ). holds s y) (getD-set-other sets (a - 1) (x - 1) next 0 (λ q. apart (omega arith)))
     ∙ sym (or-false (holds (at sets x) y))))
 
-zeros-at : (k i : ℕ) → getD {A = ℕ} (replicate k 0) i 0 ≡ 0
-zeros-at zero i = refl
-zeros-at (suc k) zero = refl
-zeros-at (suc k) (suc i) = zeros-at k i
-
 -- no row
 pub firm-none : (ts hs : List ℕ) (fs : List Bool) → Firming 0 ts hs fs (replicate 64 0) (replicate 64 0)
 unfolding any-below count-below sum-below
@@ -60,8 +57,8 @@ firm-none ts hs fs =
     record {
       once-size = refl;
       firm-size = refl;
-      once-holds = λ x y l k. ap (λ (s : ℕ). holds s y) (zeros-at 64 (x - 1)) ∙ none-holds y;
-      firm-holds = λ x y l k. ap (λ (s : ℕ). holds s y) (zeros-at 64 (x - 1)) ∙ none-holds y;
+      once-holds = λ x y l k. ap (λ (s : ℕ). holds s y) (replicate-at {A = ℕ} 64 (x - 1) 0) ∙ none-holds y;
+      firm-holds = λ x y l k. ap (λ (s : ℕ). holds s y) (replicate-at {A = ℕ} 64 (x - 1) 0) ∙ none-holds y;
     }
 
 -- counting one more
@@ -177,14 +174,8 @@ firm-solid n m ts hs fs once firm full h cols x y l lx k ky =
     full .firm-holds x y l k
     ∙ rw (cols .rows) (ap₂ (λ (b : Bool) (c : ℕ). b || leb 2 c) (any-ext m _ _ (λ j less. forth j less)) (count-ext m _ _ (λ j less. back-again j less)))
   where
-    tail-is : (j : ℕ) → j < m → getD ts j 0 ≡ row h (suc j) .from
-    tail-is j less = let place : suc j - 1 ≡ j = omega arith in rw place at (cols .tail (suc j) (omega arith) (omega arith))
-
-    head-is : (j : ℕ) → j < m → getD hs j 0 ≡ row h (suc j) .to
-    head-is j less = let place : suc j - 1 ≡ j = omega arith in rw place at (cols .head (suc j) (omega arith) (omega arith))
-
     forth : (j : ℕ) → j < m → ahead ts hs x y j ≡ forward h x y j
-    forth j less = rw (tail-is j less, head-is j less)
+    forth j less = rw (place-tail h n m ts hs cols j less, place-head h n m ts hs cols j less)
 
     back-again : (j : ℕ) → j < m → back ts hs fs x y j ≡ backward h (flagged fs) x y j
-    back-again j less = let place : suc j - 1 ≡ j = omega arith in rw (tail-is j less, head-is j less, place)
+    back-again j less = let place : suc j - 1 ≡ j = omega arith in rw (place-tail h n m ts hs cols j less, place-head h n m ts hs cols j less, place)

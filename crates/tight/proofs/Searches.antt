@@ -14,8 +14,8 @@ use Rattle.junctions.specs.Sets.{holds, Within}
 use Rattle.junctions.proofs.Bits.{one-shl}
 use Rattle.junctions.proofs.Sets.{and-holds, or-holds, less-holds, none-holds, one-holds, lowest-is}
 use Rattle.junctions.proofs.Words.{clear-holds}
+use Rattle.digraph.proofs.Expand.{left-after}
 use Rattle.tight.specs.Growth.{Leads, apart, Searched}
-use Rattle.tight.proofs.Expanding.{left-after}
 
 -- THE SEARCH UNDER WAY: what of it is to do was seen, beside the set; until it meets the others, what is done is expanded
 pub record Seeking (out : ℕ → ℕ) (set other h seen todo met : ℕ) : Type 0 where

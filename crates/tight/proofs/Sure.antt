@@ -14,12 +14,11 @@ use Rattle.junctions.proofs.Sets.{and-holds, or-holds, less-holds, lowest-is}
 use Rattle.junctions.proofs.Words.{clear-holds}
 use Rattle.junctions.proofs.Single.{one-lt, one-within}
 use Rattle.digraph.specs.Reach.{Closed, Reach}
-use Rattle.digraph.proofs.Expand.{expand-fits}
+use Rattle.digraph.proofs.Expand.{left-after, expand-fits}
 use Rattle.tight.specs.Robust.{cut, Robust}
 use Rattle.tight.specs.Growth.{All-robust, done, Growing}
 use Rattle.tight.proofs.Cut.{cut-stays}
 use Rattle.tight.proofs.Reached.{reach-some}
-use Rattle.tight.proofs.Expanding.{left-after}
 
 -- u is in all that v reaches
 abbrev Led : (out : ℕ → ℕ) → (v u : ℕ) → Type 0

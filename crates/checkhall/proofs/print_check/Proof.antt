@@ -1,6 +1,5 @@
 -- `checkhall::print_check` meets its contract. Assumes nothing.
 use mathlib.Core.Path.{sym}
-use native.Mathlib.Omega.{arith}
 use lib.Seq.{length-take-le}
 use borrow.Author.Needs.{needs}
 use Rattle.checkhall.proofs.print_check.Statement.{statement}

@@ -1,7 +1,5 @@
 -- `choice::flags` meets its contract: after k numbers the flags are those of the first k. Assumes nothing.
-use mathlib.Core.Path.{_≡_, refl, _∙_, sym, ap}
-use mathlib.Core.Bool.{false}
-use Prim.Native.Nat.{ℕ, _≤_, _-_, _+_}
+use Prim.Native.Nat.{_≤_, _-_}
 use native.Mathlib.Omega.{arith}
 use lib.ListN.{length}
 use Rattle.choice.proofs.Ascent.{Flagged, flagged-none, flagged-more, flagged-all, ascends-at}

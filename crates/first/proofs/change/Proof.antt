@@ -1,15 +1,19 @@
 -- `first::change` meets its contract: a flip opens the row, or a raise gives it a gap. Assumes nothing.
-use mathlib.Core.Path.{sym, _∙_}
-use Prim.Native.Nat.{ℕ, _+_, _-_}
+use mathlib.Core.Path.{_≡_, sym, _∙_}
+use Prim.Native.Nat.{ℕ, _+_, _-_, _^_}
 use native.Mathlib.Numerals.{add-one}
 use native.Mathlib.Omega.{arith}
 use lib.ListN.{getD}
 use mir.Syntax.{w64}
 use mir.Val.{Fits}
 use borrow.Author.Needs.{needs}
+use Rattle.junctions.proofs.Bits.{one-shl}
+use Rattle.digraph.specs.Adjacency.{out-of}
 use Rattle.digraph.specs.Layers.{distance-of}
+use Rattle.digraph.specs.Reach.{Reach}
+use Rattle.digraph.proofs.Paths.{reached-near}
 use Rattle.planner.proofs.Rows.{ends-wide}
-use Rattle.first.proofs.Steps.{raised-rise, reached-near, raised-out, flipped-in}
+use Rattle.first.proofs.Steps.{raised-rise, raised-out, flipped-in}
 use Rattle.first.proofs.change.Statement.{statement}
 use Rattle.first.proofs.change.Tie as tie
 
@@ -46,16 +50,17 @@ flip-requires c κs =
     let z = r .before .before in
     let s = z .before in
     let a = s .args in
-    let words : (j : ℕ) → Fits w64 (getD (z .zero-graph .result) j 0) = λ j. search needs in (
+    let words : (j : ℕ) → Fits w64 (getD (z .zero-graph .result) j 0) = λ j. search needs in
+    let start : Reach 64 (out-of (z .zero-graph .result)) (2 ^ (a .tail + 1 - 1)) (r .reach .result) =
+    let place : a .tail + 1 - 1 ≡ a .tail = omega arith in rw place (rw (one-shl (a .tail) (s .pre .6)) at (r .reach .ensures)) in (
       ends-wide (a .n) (a .m) (a .tails .now) (a .heads .now) (s .pre .0),
       s .pre .1,
       s .pre .2,
       d .distances .ensures,
       omega arith,
       omega arith,
-      reached-near (z .zero-graph .result) (λ j. words (j - 1) .fits) (a .tail) (s .pre .6) (distance-of (d .distances .result))
-          (rw (add-one (a .tail)) at (d .distances .ensures)) (r .reach .result) (r .reach .ensures) (a .head + 1) (omega arith) (omega arith)
-          (rw (add-one (a .head)) (sym (f .has .ensures) ∙ i .if1 .taken)),
+      reached-near 64 (out-of (z .zero-graph .result)) (a .tail + 1) (distance-of (d .distances .result)) (d .distances .ensures) (omega arith) (omega arith)
+          (λ j l u. words (j - 1) .fits) (r .reach .result) start (a .head + 1) (omega arith) (rw (add-one (a .head)) (sym (f .has .ensures) ∙ i .if1 .taken)),
       omega (arith, s .pre .0 .few),
       s .pre .3,
     )

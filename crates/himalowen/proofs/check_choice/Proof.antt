@@ -1,5 +1,5 @@
 -- `himalowen::check_choice` meets its contract. Assumes nothing.
-use mathlib.Core.Path.{_≡_, refl, sym, ap, _∙_, subst}
+use mathlib.Core.Path.{sym, subst}
 use Rattle.hall.specs.File.{hall-in}
 use Rattle.hallfile.specs.declared.Kind.the-variants.{None}
 use Rattle.choice.specs.Short.{if-some}

@@ -1,7 +1,5 @@
 -- `himalowen::plan_core` meets its contract. Assumes nothing.
-use mathlib.Core.Path.{_≡_, refl, sym, ap, _∙_, subst}
-use mathlib.Core.List.{List}
-use Prim.Native.Nat.{ℕ}
+use mathlib.Core.Path.{sym, subst}
 use borrow.Author.Needs.{needs}
 use Rattle.hall.specs.File.{hall-in, hall-refusal}
 use Rattle.hallfile.proofs.Reply.{is-refused, is-fine, reply-record}

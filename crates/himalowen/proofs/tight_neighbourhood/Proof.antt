@@ -1,9 +1,9 @@
 -- `himalowen::tight_neighbourhood` meets its contract: each return says what the neighbourhood promises. Assumes nothing.
-use mathlib.Core.Path.{_≡_, refl, sym, ap, _∙_, subst}
+use mathlib.Core.Path.{_≡_, sym, ap, _∙_, subst}
 use mathlib.Core.Bool.{Bool, true, false, _||_}
 use mathlib.Core.List.{List}
 use mathlib.Core.Option.{none}
-use Prim.Native.Nat.{ℕ, _≤_, _<_}
+use Prim.Native.Nat.{ℕ, _≤_}
 use native.Mathlib.Omega.{arith}
 use lib.Dec.{eqb, ltb}
 use borrow.Author.Tests.{eqb-false, ltb-false}
@@ -13,7 +13,6 @@ use Rattle.hall.specs.File.{hall-in, refusal}
 use Rattle.dicuts.specs.Shores.{Ranged}
 use Rattle.columns.specs.Columns.{Ends, Columns, flagged}
 use Rattle.hallfile.specs.declared.Kind.the-variants.{None}
-use Rattle.hallfile.specs.declared.HallRecord.{HallRecord}
 use Rattle.choice.specs.Short.{if-some}
 use Rattle.himalowen.specs.declared.Told.{Told}
 use Rattle.himalowen.specs.declared.Opened.{Opened}

@@ -1,18 +1,13 @@
 -- `report::report` meets its contract: what is printed is the plan, or the refusal. Assumes nothing.
-use mathlib.Core.Path.{_≡_, refl, sym, ap, _∙_}
-use mathlib.Core.Bool.{true, false}
+use mathlib.Core.Path.{_≡_, refl, sym, _∙_}
+use mathlib.Core.Bool.{true}
 use mathlib.Core.List.{List}
-use Prim.Native.Nat.{ℕ, _≤_}
-use native.Mathlib.Omega.{arith}
+use Prim.Native.Nat.{ℕ}
 use lib.Dec.{eqb}
-use lib.IntN.{ℤ}
 use lib.Seq.{length-take-le}
 use borrow.Author.Needs.{needs}
 use borrow.Author.Tests.{not-true, not-false, eq-eqb}
 use Rattle.hall.specs.File.{hall-in, hall-refusal}
-use Rattle.hallfile.specs.Kinds.{refusal-of}
-use Rattle.hallfile.specs.Record.{record-of}
-use Rattle.hallfile.specs.declared.HallRecord.{HallRecord}
 use Rattle.hallfile.proofs.Reply.{reply-record}
 use Rattle.himalowen.specs.declared.Planned.{Planned}
 use Rattle.himalowen.specs.Entry.{Plan-as}

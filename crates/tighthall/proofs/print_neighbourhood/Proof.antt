@@ -1,6 +1,5 @@
 -- `tighthall::print_neighbourhood` meets its contract. Assumes nothing.
 use mathlib.Core.Path.{sym}
-use native.Mathlib.Omega.{arith}
 use lib.Seq.{length-take-le}
 use borrow.Author.Needs.{needs}
 use Rattle.tighthall.proofs.print_neighbourhood.Statement.{statement}

@@ -1,8 +1,8 @@
 -- A difference under 2 to the 31st has its negative in 32 bits. Assumes nothing.
 use Prim.Native.Nat.{_-_}
 use native.Mathlib.Omega.{arith}
-use Rattle.audit.proofs.Signs.{below-zero-fits}
 use borrow.Author.Needs.{needs}
+use Rattle.laws.proofs.Signs.{below-zero-fits}
 use Rattle.audit.proofs.loads.is_level.Statement.{statement}
 use Rattle.audit.proofs.loads.is_level.Tie as tie
 

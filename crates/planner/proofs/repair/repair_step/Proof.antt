@@ -12,11 +12,14 @@ use Rattle.junctions.proofs.Bits.{one-shl}
 use Rattle.digraph.specs.Adjacency.{out-of}
 use Rattle.digraph.specs.Layers.{distance-of}
 use Rattle.digraph.specs.Reach.{Reach}
+use Rattle.digraph.proofs.Closure.{start-reached}
+use Rattle.digraph.proofs.Paths.{reached-near}
 use Rattle.hall.specs.Hall.{row, count}
 use Rattle.columns.specs.Columns.{at, flagged}
+use Rattle.columns.proofs.Places.{place-tail, place-head}
 use Rattle.planner.proofs.Rows.{ends-wide}
 use Rattle.planner.proofs.Walks.{walked-flip}
-use Rattle.planner.proofs.Steps.{place-tail, place-head, reached-lt, reached-closed, reached-near, start-reached, stepped-raise, stepped-flip, short-turns}
+use Rattle.planner.proofs.Steps.{reached-lt, reached-closed, stepped-raise, stepped-flip, short-turns}
 use Rattle.planner.proofs.repair.repair_step.Statement.{statement}
 use Rattle.planner.proofs.repair.repair_step.Tie as tie
 
@@ -74,8 +77,8 @@ flip-requires c κs = let d = c .before .before in let test = d .before .before 
       d .distances .ensures,
       low,
       high,
-      reached-near (out-of (g .zero-graph .result)) from (z .reach .result) (distance-of (d .distances .result)) from-low from-high
-          (λ j. elem-fits w64 w64 (g .zero-graph .result) (g .zero-graph .ok .0) (j - 1) (g .zero-graph .ok .1 .1) tt .fits) (d .distances .ensures) reach to low high there,
+      reached-near 64 (out-of (g .zero-graph .result)) from (distance-of (d .distances .result)) (d .distances .ensures) from-low from-high
+          (λ j l u. elem-fits w64 w64 (g .zero-graph .result) (g .zero-graph .ok .0) (j - 1) (g .zero-graph .ok .1 .1) tt .fits) (z .reach .result) reach to low there,
       omega (arith, s .pre .0 .few, s .pre .3),
       s .pre .4,
     )
@@ -123,7 +126,7 @@ returns-2 c = let to = c .before .before in let test = to .before in let z = tes
           let high : two .number2 .result ≤ h .n = omega (arith, head-is, rg .to-high i (omega arith) u) in
           let reach : Reach 64 (out-of (g .zero-graph .result)) (2 ^ (two .number2 .result - 1)) (z .reach .result) = rw (one-shl (two .number2 .result - 1) (omega arith)) at (z .reach .ensures) in
           let out : holds (z .reach .result) (row h i .from) ≡ false = rw tail-is at (sym (test .before .has .ensures) ∙ test .if1 .left) in
-          let into : holds (z .reach .result) (row h i .to) ≡ true = rw head-is at (start-reached (out-of (g .zero-graph .result)) (two .number2 .result) (z .reach .result) low reach) in
+          let into : holds (z .reach .result) (row h i .to) ≡ true = rw head-is at (start-reached 64 (out-of (g .zero-graph .result)) (two .number2 .result) (z .reach .result) low reach) in
           stepped-raise h m cost p F rg free start i (omega arith) u gap (z .reach .result) (at (to .raise-for .result)) (a .around .now) small
           (reached-lt h m cost p F (g .zero-graph .result) (two .number2 .result) (z .reach .result) small low high graph reach)
           (reached-closed h m cost p F (g .zero-graph .result) (two .number2 .result) (z .reach .result) small low high graph reach) out into near (to .raise-for .ensures h (a .n) F cols near),

@@ -7,7 +7,7 @@ use mir.Syntax.{w32}
 use mir.Val.{SFits, toZ}
 use mir.ValLaws.{toZ-pos}
 
-negative-fits : (d : ℕ) → d < 2 ^ 31 → SFits w32 (pos 0 -ℤ pos d)
+pub negative-fits : (d : ℕ) → d < 2 ^ 31 → SFits w32 (pos 0 -ℤ pos d)
 negative-fits zero h = record { sfits = omega arith }
 negative-fits (suc d) h = subst (SFits w32) (sym (+ℤ-idl (negsuc d))) (record { sfits = omega arith })
 
