@@ -14,7 +14,7 @@ use Rattle.laws.proofs.Counts.{sum-head}
 use Rattle.laws.proofs.Finite.{sum-ext}
 use Rattle.junctions.specs.Sets.{holds}
 use Rattle.hall.specs.Hall.{Hall, Row, enters, is-cut}
-use Rattle.hall.specs.Plan.{Cut, cut, cross, none-cross, cuts-good, load, weight-sum, level-sum}
+use Rattle.hall.specs.Plan.{Cut, cut, cross, none-cross, cuts-good, load, level-sum}
 use Rattle.laminar.specs.Families.{shores}
 use Rattle.certificates.specs.Cuts.{listing, weigh}
 
@@ -22,11 +22,6 @@ pub load-weigh : (ks : List Cut) (r : Row) → load ks r ≡ weigh (λ s. enters
 unfolding load weigh
 load-weigh [] r = refl
 load-weigh (c ∷ cs) r = ap (λ (m : ℕ). cond (enters (c .shore) r) (c .weight) 0 + m) (load-weigh cs r)
-
-pub sum-weigh : (ks : List Cut) → weight-sum ks ≡ weigh (λ s. true) ks
-unfolding weight-sum weigh
-sum-weigh [] = refl
-sum-weigh (c ∷ cs) = ap (λ (m : ℕ). c .weight + m) (sum-weigh cs)
 
 pub level-weigh : (ks : List Cut) (j : ℕ) → level-sum j ks ≡ weigh (λ s. holds s j) ks
 unfolding level-sum weigh

@@ -7,8 +7,7 @@ use Prim.Native.Nat.{ℕ, zero, suc, _+_, _≤_, _<_}
 use native.Mathlib.Omega.{arith}
 use lib.Dec.{eqb}
 use borrow.Author.Tests.{eq-eqb, eqb-true, eqb-false}
-use Rattle.laws.proofs.Booleans.{by-bool, clash, or-cases, bool-ext}
-use Rattle.laws.proofs.Numbers.{compare-numbers}
+use Rattle.laws.proofs.Booleans.{by-bool, clash, or-cases}
 use Rattle.hall.specs.Hall.{Hall, count, ascends-from, is-choice, member}
 use Rattle.dicuts.proofs.Choices.{ascends-low, ascends-high, ascends-rest, ascends-skips}
 use Rattle.order.proofs.Least.{ascends-cons, ascends-earlier}
@@ -32,33 +31,6 @@ module _ (l : ℕ) where
 
   pub member-under : (a y : ℕ) (ys : List ℕ) → ascends-from a l (y ∷ ys) ≡ true → (x : ℕ) → x < y → member x (y ∷ ys) ≡ false
   member-under a y ys e x h = ascends-skips y l (y ∷ ys) x (ascends-cons y l y ys (omega arith) (ascends-high a l y ys e) (ascends-rest a l y ys e)) h
-
-  -- with the same first number, what holds the same numbers holds the same after it
-  pub members-after : (x : ℕ) (xs ys : List ℕ) → ascends-from (suc x) l xs ≡ true → ascends-from (suc x) l ys ≡ true → (i : ℕ)
-      → member i (x ∷ xs) ≡ member i (x ∷ ys) → member i xs ≡ member i ys
-  unfolding member
-  members-after x xs ys p q i f =
-      by-bool (eqb x i)
-      (λ e. let same = eqb-true x i e in ascends-skips (suc x) l xs i p (omega arith) ∙ sym (ascends-skips (suc x) l ys i q (omega arith)))
-      (λ e. rw e at f)
-
-  -- two ascending lists with the same members are the same
-  pub members-ext : (a b : ℕ) (c d : List ℕ) → ascends-from a l c ≡ true → ascends-from b l d ≡ true → ((i : ℕ) → member i c ≡ member i d) → c ≡ d
-  unfolding member
-  members-ext a b [] [] p q f = refl
-  members-ext a b [] (y ∷ ys) p q f = clash (member-head y ys) (sym (f y))
-  members-ext a b (x ∷ xs) [] p q f = clash (member-head x xs) (f x)
-  members-ext a b (x ∷ xs) (y ∷ ys) p q f =
-      let up = members-ext (suc x) (suc y) xs ys (ascends-rest a l x xs p) (ascends-rest b l y ys q) in
-      ⊎-elim
-      (λ (e : x ≡ y).
-      let r : ascends-from (suc x) l ys ≡ true = rw e (ascends-rest b l y ys q) in
-      let g : (i : ℕ) → member i (x ∷ xs) ≡ member i (x ∷ ys) = λ i. f i ∙ ap (λ (z : ℕ). member i (z ∷ ys)) (sym e) in
-      let tails : xs ≡ ys = up (λ i. members-after x xs ys (ascends-rest a l x xs p) r i (g i)) in
-      cc)
-      (⊎-elim (λ (h : x < y). clash (member-head x xs) (f x ∙ member-under b y ys q x h))
-      (λ (h : y < x). clash (f y ∙ member-head y ys) (member-under a x xs p y h)))
-      (compare-numbers x y)
 
 -- the numbers that pass a test
 pub passing-ascends : (left a l : ℕ) (F : ℕ → Bool) → a + left ≤ suc l → ascends-from a l (passing left a F) ≡ true
@@ -90,20 +62,3 @@ module _ (h : Hall) where
   pub listed-member : (F : ℕ → Bool) (i : ℕ) → 1 ≤ i → i ≤ count h → member i (listed h F) ≡ F i
   unfolding listed
   listed-member F i low high = passing-member (count h) 1 F i low (omega arith)
-
-  pub choice-members : (c : List ℕ) → is-choice h c ≡ true → (i : ℕ) → member i c ≡ true → (1 ≤ i) × (i ≤ count h)
-  unfolding is-choice
-  choice-members c e i t = ascends-members (count h) 1 c i e t
-
-  -- two choices with the same members are the same
-  pub choices-ext : (c d : List ℕ) → is-choice h c ≡ true → is-choice h d ≡ true → ((i : ℕ) → 1 ≤ i → i ≤ count h → member i c ≡ member i d) → c ≡ d
-  unfolding is-choice
-  choices-ext c d p q f =
-      members-ext (count h) 1 1 c d p q
-      (λ i. bool-ext (member i c) (member i d)
-      (λ t. let r = choice-members c p i t in sym (f i (r .0) (r .1)) ∙ t)
-      (λ t. let r = choice-members d q i t in f i (r .0) (r .1) ∙ t))
-
-  -- a choice is the list of its members
-  pub listed-members : (c : List ℕ) → is-choice h c ≡ true → listed h (λ i. member i c) ≡ c
-  listed-members c e = choices-ext (listed h (λ i. member i c)) c (listed-choice (λ i. member i c)) e (listed-member (λ i. member i c))

@@ -7,10 +7,9 @@ use native.Mathlib.Omega.{arith}
 use lib.ListN.{length}
 use Rattle.laws.specs.Finite.{sum-below, one-if, count-below}
 use Rattle.laws.proofs.Finite.{sum-ext}
-use Rattle.hall.specs.Hall.{Hall, row, count, is-choice, member, enters, entering}
+use Rattle.hall.specs.Hall.{Hall, row, count, is-choice, member}
 use Rattle.hall.specs.Plan.{total}
-use Rattle.dicuts.specs.Shores.{cover, once}
-use Rattle.dicuts.proofs.Choices.{over, over-members, total-over, entering-cover}
+use Rattle.dicuts.proofs.Choices.{over, over-members, total-over}
 use Rattle.choicelists.specs.Listed.{listed}
 use Rattle.choicelists.proofs.Listed.{listed-choice, listed-member}
 
@@ -31,24 +30,9 @@ module _ (h : Hall) where
       ∙ sum-ext (count h) (λ k. cond (member (suc k) (listed h F)) (f (suc k)) 0) (λ k. cond (F (suc k)) (f (suc k)) 0)
       (λ k l. ap (λ (b : Bool). cond b (f (suc k)) 0) (listed-member h F (suc k) (omega arith) (omega arith)))
 
-  pub choice-total : (c : List ℕ) → is-choice h c ≡ true → total h c ≡ sum-below (count h) (λ k. cond (member (suc k) c) (row h (suc k) .price) 0)
-  choice-total c e = total-over h c ∙ over-choice (λ i. row h i .price) c e
-
   pub listed-total : (F : ℕ → Bool) → total h (listed h F) ≡ sum-below (count h) (λ k. cond (F (suc k)) (row h (suc k) .price) 0)
   listed-total F = total-over h (listed h F) ∙ over-listed (λ i. row h i .price) F
-
-  pub choice-count : (c : List ℕ) → is-choice h c ≡ true → length c ≡ count-below (count h) (λ k. member (suc k) c)
-  unfolding count-below one-if
-  choice-count c e = length-over c ∙ over-choice (λ i. 1) c e
 
   pub listed-count : (F : ℕ → Bool) → length (listed h F) ≡ count-below (count h) (λ k. F (suc k))
   unfolding count-below one-if
   listed-count F = length-over (listed h F) ∙ over-listed (λ i. 1) F
-
-  -- how many rows of a listed set enter a shore, as a cover
-  pub listed-cover : (F : ℕ → Bool) (s : ℕ) → entering h s (listed h F) ≡ cover h (once F) s
-  unfolding cover once
-  listed-cover F s =
-      entering-cover h s (listed h F) (listed-choice h F)
-      ∙ sum-ext (count h) (λ k. cond (enters s (row h (suc k))) (one-if (member (suc k) (listed h F))) 0) (λ k. cond (enters s (row h (suc k))) (one-if (F (suc k))) 0)
-      (λ k l. ap (λ (b : Bool). cond (enters s (row h (suc k))) (one-if b) 0) (listed-member h F (suc k) (omega arith) (omega arith)))

@@ -8,12 +8,6 @@ use lib.ListN.{length, getD, set, take}
 use Rattle.hall.specs.Hall.{Row}
 use Rattle.hallfile.specs.Record.{padded, column}
 
-pub padded-length : (k : ℕ) (xs : List ℕ) → length (padded k xs) ≡ k
-unfolding padded
-padded-length zero xs = refl
-padded-length (suc k) [] = ap suc (padded-length k [])
-padded-length (suc k) (x ∷ xs) = ap suc (padded-length k xs)
-
 padded-zero : (k i : ℕ) → getD (padded k []) i 0 ≡ 0
 unfolding padded
 padded-zero zero i = refl

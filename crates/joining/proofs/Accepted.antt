@@ -5,8 +5,8 @@ use mathlib.Core.List.{List}
 use Prim.Native.Nat.{ℕ}
 use native.Mathlib.Omega.{arith}
 use lib.Dec.{eqb}
-use borrow.Author.Tests.{eqb-true, eq-eqb}
-use Rattle.laws.proofs.Booleans.{by-bool, and-l, and-r, and-i}
+use borrow.Author.Tests.{eqb-true}
+use Rattle.laws.proofs.Booleans.{by-bool, and-r}
 use Rattle.hall.specs.File.{hall-in, Refusal, refusal, hall-refusal, connected}
 use Rattle.dicuts.specs.Shores.{Ranged, Linked}
 use Rattle.joining.specs.Sound.{Sound}
@@ -29,10 +29,6 @@ module _ (bs : List ℕ) where
       (λ e. let none : hall-refusal bs .number ≡ 0 = ap (λ (x : Refusal). x .number) (sound-connected bs g e) in absurd (omega arith)) (λ e. e)
 
   module _ (acc : accepted bs ≡ true) where
-    pub accepted-bytes : all-bytes bs ≡ true
-    unfolding accepted
-    accepted-bytes = and-l (all-bytes bs) (eqb (hall-refusal bs .number) 0) acc
-
     pub accepted-number : hall-refusal bs .number ≡ 0
     unfolding accepted
     accepted-number = eqb-true (hall-refusal bs .number) 0 (and-r (all-bytes bs) (eqb (hall-refusal bs .number) 0) acc)
@@ -48,8 +44,3 @@ module _ (bs : List ℕ) where
 
     pub accepted-linked : Linked (hall-in bs)
     accepted-linked = connected-linked (hall-in bs) accepted-ranged accepted-connected
-
-  pub sound-accepted : all-bytes bs ≡ true → Sound bs → connected (hall-in bs) ≡ true → accepted bs ≡ true
-  unfolding accepted refusal
-  sound-accepted b g e =
-      and-i (all-bytes bs) (eqb (hall-refusal bs .number) 0) b (eq-eqb (hall-refusal bs .number) 0 (ap (λ (x : Refusal). x .number) (sound-connected bs g e)))

@@ -71,10 +71,6 @@ module _ (h : Hall) (rg : Ranged h) where
             bool-ext (holds r (row h i .from)) (holds r (row h i .to)) (sl .kept i l m) (sl .shut i l m (all-numbers-member (count h) 1 i l (omega arith)));
       }
 
-  pub linked-connected : Linked h → connected h ≡ true
-  unfolding Linked
-  linked-connected lk = by-bool (connected h) (λ e. e) (λ e. let w = unconnected-split e in absurd (lk (reached h every 1) (w .some) (w .proper) (w .same)))
-
   pub split-unconnected : (s : ℕ) → Split h s → connected h ≡ false
   unfolding Linked
   split-unconnected s w = by-bool (connected h) (λ e. absurd (connected-linked e s (w .some) (w .proper) (w .same))) (λ e. e)

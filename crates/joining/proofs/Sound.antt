@@ -211,10 +211,3 @@ module _ (bs : List ℕ) where
 
   pub sound-unconnected : Sound bs → connected (hall-in bs) ≡ false → hall-refusal bs ≡ refusal 9 0
   sound-unconnected g e = sound-refusal g ∙ cond-false (connected (hall-in bs)) (refusal 0 0) (refusal 9 0) e
-
-  pub sound-other : Sound bs → Other (hall-refusal bs .number)
-  unfolding refusal
-  sound-other g a b =
-      by-bool (connected (hall-in bs))
-      (λ e. let none : hall-refusal bs .number ≡ 0 = ap (λ (x : Refusal). x .number) (sound-connected g e) in omega arith)
-      (λ e. let nine : hall-refusal bs .number ≡ 9 = ap (λ (x : Refusal). x .number) (sound-unconnected g e) in omega arith)

@@ -7,7 +7,7 @@ use native.Mathlib.Nat.{pow-suc, mod-lt, zero-lt-suc}
 use native.Mathlib.Numerals.{one-add}
 use native.Mathlib.Omega.{arith}
 use lib.Dec.{eqb, leb, eqb·suc-suc, leb·zero, leb·suc-zero, leb·suc-suc}
-use lib.Count.{trailingZeros, under, ones, ones-step}
+use lib.Count.{trailingZeros, under}
 use lib.Pow.{shr-shr, shl-exact, pow-pos}
 use lib.Bits.{bitAnd, bitOr, bitXor, differ, and-step, or-step, xor-step, and-shr, or-shr, xor-shr, and-high, and-self}
 use borrow.Author.Tests.{ne-eqb}
@@ -215,14 +215,3 @@ clear-lowest (suc k) s p h =
     let z : 2 ^ under (s % 2) t ≡ 2 ^ 0 = ap (λ (n : ℕ). 2 ^ n) (under-one (s % 2) t e) in
     omega (arith, and-step s (s - 1), ap (bitAnd (s / 2)) half, and-self (s / 2), z))
     (odd-or-even s)
-
--- how many bits there are, after one more
-pub ones-add : (k s : ℕ) → bit s k ≡ 0 → ones (s + 2 ^ k) ≡ ones s + 1
-ones-add zero s e = omega (arith, ones-step s, ones-step (s + 1), ap ones h)
-  where
-    h : (s + 1) / 2 ≡ s / 2
-    h = omega arith
-ones-add (suc k) s e =
-    let p : bit (s / 2) k ≡ 0 = sym (bit-suc s k) ∙ e in
-    let q : (s + 2 ^ suc k) / 2 ≡ s / 2 + 2 ^ k = omega (arith, pow-suc 2 k) in
-    omega (arith, ones-step s, ones-step (s + 2 ^ suc k), ap ones q, ones-add k (s / 2) p, pow-suc 2 k)

@@ -1,15 +1,15 @@
--- What the test `cross` says: it passes exactly for two sets that cross, and fails exactly where they are apart, nested, or cover all junctions. Assumes nothing.
+-- What the test `cross` says: it passes exactly for two sets that cross. Assumes nothing.
 use mathlib.Core.Path.{_≡_, refl, sym, ap, _∙_}
 use mathlib.Core.Bool.{Bool, true, false, _&&_, not}
-use mathlib.Core.Logic.{_⊎_, inl, inr, ⊎-elim}
+use mathlib.Core.Logic.{_⊎_, ⊎-elim}
 use Prim.Native.Nat.{ℕ, zero, suc, _+_, _≤_, _<_}
 use native.Mathlib.Omega.{arith}
 use lib.Dec.{eqb}
-use borrow.Author.Tests.{eqb-true, eqb-false, not-true, not-false}
-use Rattle.laws.proofs.Booleans.{by-bool, clash, and-l, and-r, and-i, and-false-cases, or-cases, or-false-l, or-false-r, not-true-false, not-false-true}
+use borrow.Author.Tests.{eqb-true, eqb-false, not-true}
+use Rattle.laws.proofs.Booleans.{by-bool, clash, and-l, and-r, and-i, or-cases, or-false-l, or-false-r, not-true-false, not-false-true}
 use Rattle.junctions.specs.Sets.{holds}
 use Rattle.hall.specs.Plan.{crosses-from, cross}
-use Rattle.laminar.specs.Families.{Apart, Inside, Spanning, Crossing}
+use Rattle.laminar.specs.Families.{Crossing}
 
 -- the search of `cross`
 found-from : (k j : ℕ) (f : ℕ → Bool) → crosses-from k j f ≡ true → (i : ℕ) × (j ≤ i) × (i < j + k) × (f i ≡ true)
@@ -86,33 +86,3 @@ module _ (n a b : ℕ) where
 
   pub uncrossed : (Crossing n a b → ⊥) → cross n a b ≡ false
   uncrossed f = not-true-false (cross n a b) (λ e. f (cross-crossing e))
-
-  pub apart-uncrossed : Apart n a b → cross n a b ≡ false
-  apart-uncrossed f = uncrossed (λ c. let w = c .overlap .shared in clash (w .second) (f (w .at) (w .low) (w .high) (w .first)))
-
-  pub inside-uncrossed : Inside n a b → cross n a b ≡ false
-  inside-uncrossed f = uncrossed (λ c. let w = c .overlap .left in clash (f (w .at) (w .low) (w .high) (w .first)) (w .second))
-
-  pub contains-uncrossed : Inside n b a → cross n a b ≡ false
-  contains-uncrossed f = uncrossed (λ c. let w = c .overlap .right in clash (f (w .at) (w .low) (w .high) (w .second)) (w .first))
-
-  pub spanning-uncrossed : Spanning n a b → cross n a b ≡ false
-  spanning-uncrossed f = uncrossed (λ c. let w = c .missed in clash (f (w .at) (w .low) (w .high) (w .first)) (w .second))
-
-  none-both : (f g : ℕ → Bool) → crosses-from n 1 (λ j. f j && g j) ≡ false → (j : ℕ) → 1 ≤ j → j ≤ n → f j ≡ true → g j ≡ false
-  none-both f g e j l m p = not-true-false (g j) (λ q. clash (and-i (f j) (g j) p q) (none-from n 1 (λ i. f i && g i) e j l (omega arith)))
-
-  pub uncrossed-cases : cross n a b ≡ false → Apart n a b ⊎ (Inside n a b ⊎ (Inside n b a ⊎ Spanning n a b))
-  unfolding cross shared-test left-test right-test missed-test
-  uncrossed-cases e =
-      ⊎-elim
-      (λ (p : shared-test && left-test ≡ false).
-      ⊎-elim (λ (q : shared-test ≡ false). inl (none-both (holds a) (holds b) q))
-      (λ (q : left-test ≡ false). inr (inl (λ j l m t. not-false (holds b j) (none-both (holds a) (λ i. not (holds b i)) q j l m t))))
-      (and-false-cases shared-test left-test p))
-      (λ (p : right-test && missed-test ≡ false).
-      ⊎-elim (λ (q : right-test ≡ false). inr (inr (inl (λ j l m t. not-false (holds a j) (none-both (holds b) (λ i. not (holds a i)) q j l m t)))))
-      (λ (q : missed-test ≡ false).
-      inr (inr (inr (λ j l m t. not-false (holds b j) (none-both (λ i. not (holds a i)) (λ i. not (holds b i)) q j l m (ap not t))))))
-      (and-false-cases right-test missed-test p))
-      (and-false-cases (shared-test && left-test) (right-test && missed-test) e)

@@ -7,18 +7,6 @@ use lib.Dec.{eqb}
 use Rattle.junctions.specs.Sets.{holds}
 use Rattle.hall.specs.Plan.{Cut}
 
--- no junction is in both sets
-abbrev pub Apart : (n a b : ℕ) → Type 0
-Apart n a b = (j : ℕ) → 1 ≤ j → j ≤ n → holds a j ≡ true → holds b j ≡ false
-
--- every junction of a is one of b
-abbrev pub Inside : (n a b : ℕ) → Type 0
-Inside n a b = (j : ℕ) → 1 ≤ j → j ≤ n → holds a j ≡ true → holds b j ≡ true
-
--- every junction is in one of the two sets
-abbrev pub Spanning : (n a b : ℕ) → Type 0
-Spanning n a b = (j : ℕ) → 1 ≤ j → j ≤ n → holds a j ≡ false → holds b j ≡ true
-
 -- a junction that is in a or not, as x says, and in b or not, as y says
 pub record Spot (n a b : ℕ) (x y : Bool) : Type 0 where
   pub at : ℕ

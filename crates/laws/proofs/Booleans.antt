@@ -16,10 +16,6 @@ by-bool false f g = g refl
 pub clash {ℓ} : {C : Type ℓ} {b : Bool} → b ≡ true → b ≡ false → C
 clash p q = absurd (true≢false (sym p ∙ q))
 
-pub bool-cases : (b : Bool) → (b ≡ true) ⊎ (b ≡ false)
-bool-cases true = inl refl
-bool-cases false = inr refl
-
 pub not-true-false : (b : Bool) → (b ≡ true → ⊥) → b ≡ false
 not-true-false true f = absurd (f refl)
 not-true-false false f = refl
@@ -39,10 +35,6 @@ and-r false b e = clash e refl
 pub and-i : (a b : Bool) → a ≡ true → b ≡ true → (a && b) ≡ true
 and-i true b p q = q
 and-i false b p q = p
-
-pub and-false-cases : (a b : Bool) → (a && b) ≡ false → (a ≡ false) ⊎ (b ≡ false)
-and-false-cases true b e = inr e
-and-false-cases false b e = inl refl
 
 pub or-cases : (a b : Bool) → (a || b) ≡ true → (a ≡ true) ⊎ (b ≡ true)
 or-cases true b e = inl refl

@@ -26,7 +26,3 @@ module _ (size : ℕ) (f : ℕ → ℕ) where
   module _ (k : ℕ) (column : List ℕ) (g : Padded size f k column) where
     pub padded-all : (m : ℕ) → k ≤ m → m ≤ k → Padded size f m column
     padded-all m l o = let e : k ≡ m = omega arith in rw e at g
-
-    -- by number, from 1
-    pub padded-at : (i : ℕ) → 1 ≤ i → i ≤ k → at column i ≡ f (i - 1)
-    padded-at i l m = g .first (i - 1) (omega arith)

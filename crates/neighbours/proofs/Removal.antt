@@ -15,7 +15,7 @@ use Rattle.laws.proofs.Connectives.{one-true, one-false}
 use Rattle.junctions.specs.Sets.{holds, full, Within}
 use Rattle.junctions.proofs.Sets.{within-full, gather-lt}
 use Rattle.junctions.proofs.Bounds.{within-full-lt}
-use Rattle.junctions.proofs.Members.{holds-some, full-in, lacks-proper}
+use Rattle.junctions.proofs.Members.{holds-some, lacks-proper}
 use Rattle.digraph.specs.Reach.{Closed, Reach}
 use Rattle.hall.specs.Hall.{Hall, row, count, enters}
 use Rattle.dicuts.specs.Shores.{Ranged, Shore, cover, once, Joining, Tight, Sep, sep, around}
@@ -23,7 +23,7 @@ use Rattle.dicuts.specs.Arcs.{arc, arcs}
 use Rattle.dicuts.proofs.Shores.{sep-true, true-sep, around-holds}
 use Rattle.joining.specs.Sealed.{Sealed}
 use Rattle.joining.proofs.Sealed.{sealed-closed, closed-sealed}
-use Rattle.joining.proofs.Joining.{sealed-cover, cover-sealed, one-within, one-self, joining-reach}
+use Rattle.joining.proofs.Joining.{sealed-cover, cover-sealed, one-within, one-self}
 use Rattle.neighbours.specs.Removal.{without, Spared, Chosen}
 
 -- what is reached lies in every sealed set that holds the start
@@ -35,19 +35,6 @@ reach-sealed h F v r s l reach sl has = reach .least s (one-within s v l has) (s
 full-closed : (h : Hall) (F : ℕ → Bool) → Closed (h .n) (arcs h F) (full (h .n))
 unfolding Closed arcs
 full-closed h F j l m t = within-full (h .n) (arcs h F j) (gather-lt (h .n) (arc h F j))
-
--- where all is reached, it is with more rows backward too
-pub reach-more :
-    (h : Hall) → Ranged h → (F G : ℕ → Bool) → ((i : ℕ) → 1 ≤ i → i ≤ count h → F i ≡ true → G i ≡ true) → (start : ℕ) →
-    Reach (h .n) (arcs h F) start (full (h .n)) → Reach (h .n) (arcs h G) start (full (h .n))
-reach-more h ranged F G more start reach =
-    record {
-      contains = reach .contains;
-      closed = full-closed h G;
-      least = λ t w c.
-          let sl : Sealed h G t = closed-sealed h G t ranged c in
-          reach .least t w (sealed-closed h F t (record { kept = sl .kept; shut = λ i l m e. sl .shut i l m (more i l m e) }));
-    }
 
 module _ (h : Hall) (F : ℕ → Bool) (v : ℕ) (low : 1 ≤ v) (high : v ≤ h .n) (r : ℕ) (reach : Reach (h .n) (arcs h F) (2 ^ (v - 1)) r) where
   pub reach-lt : r < 2 ^ h .n
@@ -195,27 +182,6 @@ reached-around h F v v-low u u-low u-high all =
     clash (z .2) (w .2 (z .0) (z .1)))
     (λ e. ap not e)
 
--- where v reaches all over the rows forward and those of B backward, no other row of F can separate it from anything
-module _ (h : Hall) (ranged : Ranged h) (F B : ℕ → Bool) (fewer : (i : ℕ) → 1 ≤ i → i ≤ count h → B i ≡ true → F i ≡ true)
-    (v : ℕ) (spans : Reach (h .n) (arcs h B) (2 ^ (v - 1)) (full (h .n))) where
-  pub spare-full : (f : ℕ) → B f ≡ false → Spared h F f v (full (h .n))
-  unfolding without
-  spare-full f none =
-      reach-more h ranged B (without F f)
-      (λ i l m e.
-      and-i (F i) (not (eqb i f)) (fewer i l m e) (by-bool (eqb i f) (λ q. clash e (ap B (eqb-true i f q) ∙ none)) (λ q. ap not q)))
-      (2 ^ (v - 1)) spans
-
-  -- so the rows of B alone give the neighbourhood
-  pub spanned-around :
-      1 ≤ v → (u : ℕ) → 1 ≤ u → u ≤ h .n → ((f : ℕ) → Chosen h B f → (r : ℕ) × Spared h F f v r × (holds r u ≡ true)) →
-      holds (around h (once F) v) u ≡ true
-  spanned-around v-low u u-low u-high all =
-      reached-around h F v v-low u u-low u-high
-      (λ f c.
-      by-bool (B f) (λ e. all f (record { low = c .low; high = c .high; in-it = e }))
-      (λ e. (full (h .n), spare-full f e, full-in (h .n) u u-low u-high)))
-
 -- a chosen row whose tail is reached from its head without it
 module _ (h : Hall) (F : ℕ → Bool) (f : ℕ) (chosen : Chosen h F f) (r : ℕ) (to-low : 1 ≤ row h f .to) (from-low : 1 ≤ row h f .from)
     (reach : Spared h F f (row h f .to) r) (back : holds r (row h f .from) ≡ true) where
@@ -227,13 +193,7 @@ module _ (h : Hall) (F : ℕ → Bool) (f : ℕ) (chosen : Chosen h F f) (r : �
       clash (reach-sealed h (without F f) (row h f .to) r s to-low reach sl (and-r (not from) to e) (row h f .from) from-low back)
       (not-true from (and-l (not from) to e))
 
-  -- it enters no tight shore
-  pub drop-separates-none : (s : ℕ) → Tight h (once F) s → enters s (row h f) ≡ false
-  drop-separates-none s t =
-      not-true-false (enters s (row h f))
-      (λ e. drop-not-entering s (tight-sealed h F f (chosen .low) (chosen .high) s t (chosen .in-it) e) e)
-
-  -- and the others join without it
+  -- the others join without it
   pub drop-joins : Joining h (once F) → Joining h (once (without F f))
   unfolding Joining
   drop-joins joins s shore =
@@ -244,11 +204,3 @@ module _ (h : Hall) (F : ℕ → Bool) (f : ℕ) (chosen : Chosen h F f) (r : �
       let outside : enters s (row h f) ≡ false = not-true-false (enters s (row h f)) (drop-not-entering s sl) in
       omega
       (arith, joins s shore, cover-without h F f (chosen .low) (chosen .high) s, cond-false (enters s (row h f)) (once F f) 0 outside))
-
--- where the others join, all is reached without it
-pub joins-reached :
-    (h : Hall) → Ranged h → (F : ℕ → Bool) (f : ℕ) → Joining h (once (without F f)) → (v : ℕ) → 1 ≤ v → v ≤ h .n → (r : ℕ) → Spared h F f v r →
-    (u : ℕ) → 1 ≤ u → u ≤ h .n → holds r u ≡ true
-unfolding Within
-joins-reached h ranged F f joins v v-low v-high r reach u u-low u-high =
-    joining-reach h (without F f) ranged joins v v-low v-high .least r (reach .contains) (reach .closed) u u-low (full-in (h .n) u u-low u-high)

@@ -38,10 +38,6 @@ module _ (h : Hall) (few : count h ≤ 256) (c d : List ℕ) (c-choice : is-choi
       ⊎-elim (λ (e : total h c ≡ total h d). inr (e, omega arith))
       (⊎-elim (λ (k : total h c < total h d). inl k) (λ (k : total h d < total h c). absurd (omega arith))) (compare-numbers (total h c) (total h d))
 
-  pub less-ranked : (total h c < total h d) ⊎ ((total h c ≡ total h d) × (length c < length d)) → over (ranked h) c < over (ranked h) d
-  less-ranked (inl l) = omega (arith, choice-length h c c-choice, ranked-sum h c, ranked-sum h d)
-  less-ranked (inr t) = omega (arith, ranked-sum h c, ranked-sum h d)
-
   pub ranked-same : over (ranked h) c ≡ over (ranked h) d → (total h c ≡ total h d) × (length c ≡ length d)
   ranked-same e =
       let m = choice-length h c c-choice in

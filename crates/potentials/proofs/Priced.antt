@@ -1,5 +1,4 @@
 -- Raises and flips keep what ties costs and a potential to the movable rows. Assumes nothing.
-use mathlib.Core.Path.{sym}
 use mathlib.Core.Bool.{Bool}
 use Prim.Native.Nat.{ℕ}
 use native.Mathlib.Omega.{arith}
@@ -9,7 +8,7 @@ use Rattle.hall.specs.Hall.{Hall}
 use Rattle.dicuts.specs.Shores.{Ranged}
 use Rattle.potentials.specs.ZeroGraph.{zero-arcs, Under-on, raised, Raisable}
 use Rattle.potentials.specs.Flip.{Flip}
-use Rattle.potentials.specs.Compare.{Priced, Agree}
+use Rattle.potentials.specs.Compare.{Priced}
 use Rattle.potentials.proofs.Raise.{raised-under, raised-keeps-rise}
 
 pub priced-under : (h : Hall) (m : ℕ → Bool) (c p : ℕ → ℕ) (F : ℕ → Bool) → Priced h c p m F → Under-on h m c p
@@ -32,8 +31,3 @@ flip-priced h m c p F G flip priced =
       under = priced .under;
       paid = λ i l u t g. by-bool (F i) (λ f. priced .paid i l u t f) (λ f. omega (arith, flip .new i g f));
     }
-
--- a flip leaves the other rows as they were
-pub flip-agree : (h : Hall) (m : ℕ → Bool) (c p : ℕ → ℕ) (F G : ℕ → Bool) → Flip h m c p F G → Agree h m F G
-unfolding Agree
-flip-agree h m c p F G flip i l u t = sym (flip .fixed i t)

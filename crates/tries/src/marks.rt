@@ -6,10 +6,10 @@ pub const SHORE: u64 = 9_000_000_000_000_000_011;
 
 pub const LEVEL: i32 = 2_000_000_011;
 
-pub fn rows_kept(rows: [u32; 256], from: usize) -> bool {
+pub fn numbers_kept(numbers: &[u32], from: usize) -> bool {
     let mut i = from;
-    while i < 256 {
-        if rows[i] != NUMBER {
+    while i < numbers.len() {
+        if numbers[i] != NUMBER {
             return false;
         }
         i += 1;
@@ -21,17 +21,6 @@ pub fn shores_kept(shores: [u64; 125], from: usize) -> bool {
     let mut i = from;
     while i < 125 {
         if shores[i] != SHORE {
-            return false;
-        }
-        i += 1;
-    }
-    true
-}
-
-pub fn weights_kept(weights: [u32; 125], from: usize) -> bool {
-    let mut i = from;
-    while i < 125 {
-        if weights[i] != NUMBER {
             return false;
         }
         i += 1;

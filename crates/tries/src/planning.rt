@@ -46,9 +46,9 @@ fn kept_after(lists: Lists, rows: usize, cuts: usize, levels: usize) -> bool {
     let shores = lists.shores;
     let weights = lists.weights;
     let heights = lists.levels;
-    let rows_kept = marks::rows_kept(numbers, rows);
+    let rows_kept = marks::numbers_kept(&numbers, rows);
     let shores_kept = marks::shores_kept(shores, cuts);
-    let weights_kept = marks::weights_kept(weights, cuts);
+    let weights_kept = marks::numbers_kept(&weights, cuts);
     let levels_kept = marks::levels_kept(heights, levels);
     rows_kept & shores_kept & weights_kept & levels_kept
 }

@@ -1,14 +1,15 @@
--- `tries::marks::rows_kept` meets its contract. Assumes nothing.
+-- `tries::marks::numbers_kept` meets its contract. Assumes nothing.
 use Prim.Native.Nat.{_≤_, _-_}
+use lib.ListN.{length}
 use borrow.Author.Needs.{needs}
-use Rattle.tries.proofs.marks.rows_kept.Statement.{statement}
-use Rattle.tries.proofs.marks.rows_kept.Tie as tie
+use Rattle.tries.proofs.marks.numbers_kept.Statement.{statement}
+use Rattle.tries.proofs.marks.numbers_kept.Tie as tie
 
 abbrev Inv-loop : tie.InvT-loop
-Inv-loop from rows i₀ i = from ≤ i
+Inv-loop numbers from i₀ i = from ≤ i
 
 abbrev μ-loop : tie.MeasureT-loop
-μ-loop from rows i₀ i = 256 - i
+μ-loop numbers from i₀ i = length numbers - i
 
 loop-holds : tie.Need-loop-holds Inv-loop μ-loop
 loop-holds c = search needs
@@ -16,8 +17,8 @@ loop-holds c = search needs
 mul-if1 : tie.Need-mul-if1 Inv-loop μ-loop
 mul-if1 c = search needs
 
-array-read-if1 : tie.Need-array-read-if1 Inv-loop μ-loop
-array-read-if1 c = search needs
+shared-slice-read-if1 : tie.Need-shared-slice-read-if1 Inv-loop μ-loop
+shared-slice-read-if1 c = search needs
 
 returns : tie.Need-returns Inv-loop μ-loop
 returns c = search needs
@@ -34,15 +35,15 @@ loop-again c = search needs
 returns-2 : tie.Need-returns-2 Inv-loop μ-loop
 returns-2 c = search needs
 
-pub rows-kept-spec : {M : Type 1} → statement M
-rows-kept-spec =
+pub numbers-kept-spec : {M : Type 1} → statement M
+numbers-kept-spec =
     tie.close
     (tie.spec
     Inv-loop
     μ-loop
     loop-holds
     mul-if1
-    array-read-if1
+    shared-slice-read-if1
     returns
     add-i
     loop-less
