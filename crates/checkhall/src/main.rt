@@ -5,7 +5,7 @@ use libc::STDOUT_FILENO;
 fn print_check(file: &[u8], rows: [u32; 257], count: usize)
     requires { ⌜ count ≤ 257 ⌝ }
 {
-    console::print_told(himalowen::check_choice(file, &rows[..count]));
+    console::print_told(checking::check_choice(file, &rows[..count]));
 }
 
 fn check_pair(name: &[u8], rows: &[u8]) {

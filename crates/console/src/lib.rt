@@ -1,9 +1,8 @@
 // What the programs share: numbers from text, the bytes of a file, and the lines that they print.
 ghost use Prim.Native.Nat.{_≤_};
 ghost use Rattle.io.specs.Counts.{Counts};
-use hallfile::Kind;
-use himalowen::Finding;
-use himalowen::Told;
+use answers::Finding;
+use answers::Told;
 use junctions::Junctions;
 use libc::STDOUT_FILENO;
 
@@ -83,9 +82,9 @@ fn print_set(word: &[u8], set: Junctions) {
     io::write_all(STDOUT_FILENO, b"\n");
 }
 
-fn print_refusal(number: u64, row: u32) {
+fn print_refusal(number: u32, row: u32) {
     io::write_all(STDOUT_FILENO, b"REFUSED ");
-    io::print_decimal(STDOUT_FILENO, number);
+    io::print_decimal(STDOUT_FILENO, number as u64);
     io::write_all(STDOUT_FILENO, b" ");
     io::print_decimal(STDOUT_FILENO, row as u64);
     io::write_all(STDOUT_FILENO, b"\n");
@@ -106,19 +105,11 @@ fn print_found(found: Finding) {
 pub fn print_told(told: Told) {
     let refusal = told.refusal;
     let found = told.found;
-    match refusal {
-        Kind::None => print_found(found),
-        Kind::ListShort => print_refusal(1, 0),
-        Kind::FileLength => print_refusal(2, 0),
-        Kind::JunctionCount => print_refusal(3, 0),
-        Kind::Blocks => print_refusal(4, 0),
-        Kind::RowCount => print_refusal(5, 0),
-        Kind::RowEnds(row) => print_refusal(6, row),
-        Kind::RowLoop(row) => print_refusal(7, row),
-        Kind::RowPrice(row) => print_refusal(8, row),
-        Kind::Unjoined => print_refusal(9, 0),
-        Kind::Choice => print_refusal(10, 0),
+    if refusal.is_none() {
+        print_found(found);
+        return;
     }
+    print_refusal(refusals::number_of(refusal), refusals::row_of(refusal));
 }
 
 // A file's bytes, as many as one more than a hall file may have.

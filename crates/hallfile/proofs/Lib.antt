@@ -1,3 +1,4 @@
+pub mod Accepted
 pub mod Columns
 pub mod Fields
 pub mod Links

@@ -1,4 +1,3 @@
-pub mod Kinds
 pub mod Places
 pub mod Record
 pub mod Shape

@@ -8,7 +8,7 @@ use Rattle.hall.specs.Hall.{Row, Hall, hall, count}
 use Rattle.hall.specs.File.{Refusal}
 use Rattle.hallfile.specs.declared.HallRecord.{HallRecord}
 use Rattle.hallfile.specs.declared.Reading.{Reading}
-use Rattle.hallfile.specs.Kinds.{refusal-of}
+use Rattle.refusals.specs.Kinds.{refusal-of}
 
 -- the numbers, cut or filled up by zeros to `size` places
 unfoldable pub padded : (size : ℕ) → List ℕ → List ℕ

@@ -1,12 +1,9 @@
 // Reading a hall from the bytes of its file: refusals 2 to 9 in their fixed order, and the hall as columns.
 ghost use mathlib.Core.Path.{_≡_};
-ghost use mathlib.Core.Bool.{true, false};
-ghost use Prim.Native.Nat.{_<_};
-ghost use lib.Dec.{eqb};
-ghost use Rattle.hallfile.specs.Kinds.{refusal-of};
 ghost use Rattle.hall.specs.File.{hall-in, hall-refusal};
 ghost use Rattle.hallfile.specs.Record.{Replies, empty-record};
 ghost use Rattle.hallfile.specs.Shape.{shape-refusal};
+use refusals::Kind;
 
 mod blocks;
 mod connected;
@@ -14,32 +11,6 @@ mod little;
 mod places;
 mod rows;
 mod view;
-
-// What turns a call back; the kinds of a row carry its number, from 1.
-pub enum Kind {
-    None,
-    ListShort,
-    FileLength,
-    JunctionCount,
-    Blocks,
-    RowCount,
-    RowEnds(u32),
-    RowLoop(u32),
-    RowPrice(u32),
-    Unjoined,
-    Choice,
-}
-
-impl Kind {
-    pub fn is_none(self) -> bool
-        ensures { λ r. ⌜ r ≡ eqb (refusal-of self .number) 0 ⌝ }
-    {
-        match self {
-            Kind::None => true,
-            _ => false,
-        }
-    }
-}
 
 // A hall as columns: row i stands at place i - 1, unused places are zero.
 pub struct HallRecord {

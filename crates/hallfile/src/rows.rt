@@ -1,16 +1,16 @@
 // The rows, read in place, block after block: each is checked, and stored in the columns.
 use crate::HallRecord;
-use crate::Kind;
 use crate::Reading;
 use crate::places::Lane;
 use crate::places::Place;
 use crate::view;
+use refusals::Kind;
 ghost use mathlib.Core.Path.{_≡_};
 ghost use Prim.Native.Nat.{_≤_};
 ghost use lib.ListN.{length};
 ghost use Rattle.hall.specs.Hall.{row-of, hall};
 ghost use Rattle.hall.specs.File.{blocks, rows-refusal, all-rows};
-ghost use Rattle.hallfile.specs.Kinds.{refusal-of};
+ghost use Rattle.refusals.specs.Kinds.{refusal-of};
 ghost use Rattle.hallfile.specs.Record.{Replies};
 ghost use Rattle.hallfile.specs.Places.{Table, row-refusal};
 

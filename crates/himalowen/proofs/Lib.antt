@@ -1,9 +1,1 @@
-pub mod Answers
-pub mod Check
-pub mod Reading
-pub mod Opening
-pub mod Tight
-pub mod Fronts
-pub mod Lent
-pub mod Plan
 pub mod Replies

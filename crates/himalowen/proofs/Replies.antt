@@ -3,11 +3,13 @@ use mathlib.Core.Path.{_≡_, refl}
 use mathlib.Core.List.{List, [], _∷_}
 use Prim.Native.Nat.{ℕ}
 use lib.IntN.{ℤ}
-use Rattle.hallfile.specs.Kinds.{refusal-of}
-use Rattle.himalowen.specs.declared.Told.{Told}
-use Rattle.himalowen.specs.declared.Planned.{Planned}
-use Rattle.himalowen.specs.Answers.{outcome-of, set-of}
-use Rattle.himalowen.specs.Entry.{Check-says, Tight-says, Plan-says}
+use Rattle.refusals.specs.Kinds.{refusal-of}
+use Rattle.answers.specs.declared.Told.{Told}
+use Rattle.planning.specs.declared.Planned.{Planned}
+use Rattle.answers.specs.Answers.{outcome-of, set-of}
+use Rattle.checking.specs.Check.{Check-says}
+use Rattle.neighbourhood.specs.Tight.{Tight-says}
+use Rattle.planning.specs.Plan.{Plan-says}
 use Rattle.himalowen.specs.Replies.{told-places, planned-places, Check-leaves, Tight-leaves, Plan-leaves}
 
 pub told-listed : (t : Told) (a b o s : ℕ) → a ≡ refusal-of (t .refusal) .number → b ≡ refusal-of (t .refusal) .place → o ≡ outcome-of (t .found) → s ≡ set-of (t .found)

@@ -1,301 +1,77 @@
-// Opening lanes at least cost: the public calls and what they promise, by specs/Entry.antt.
+// The exported calls, as include/himalowen.h declares them: a reply is an array of numbers, in the order of its fields.
 ghost use mathlib.Core.Path.{_≡_};
-ghost use mathlib.Core.Bool.{true, _||_};
-ghost use mathlib.Core.List.{List};
-ghost use Prim.Native.Nat.{ℕ, _≤_};
-ghost use lib.Dec.{eqb, ltb};
-ghost use lib.ListN.{length};
-ghost use Rattle.hall.specs.File.{hall-in, hall-refusal, refusal};
-ghost use Rattle.hallfile.specs.Record.{record-of};
-ghost use Rattle.choice.specs.Short.{if-some};
-ghost use Rattle.himalowen.specs.Answers.{missing, refused, surrounded, unplanned};
-ghost use Rattle.himalowen.specs.Entry.{Check-says, Tight-says, Plan-as, Plan-says};
-ghost use Rattle.himalowen.specs.Lent.{Lent-says, Outlined};
-ghost use Rattle.himalowen.specs.Opening.{Opening};
-use cutlist::Cut;
-use cutlist::Lists;
-use hallfile::HallRecord;
-use hallfile::Kind;
-use junctions::Junctions;
+ghost use Rattle.answers.specs.Answers.{outcome-of, set-of};
+ghost use Rattle.himalowen.specs.Replies.{Check-leaves, Tight-leaves, Plan-leaves, told-places, planned-places};
+use answers::Told;
+use planning::Planned;
 
-mod boundary;
-
-// What a call found; nothing where it was refused.
-pub enum Finding {
-    Nothing,
-    Joins,
-    Misses(Junctions),
-    Around(Junctions),
-}
-
-pub struct Told {
-    pub refusal: Kind,
-    pub found: Finding,
-}
-
-// A plan's reply: the filled lengths of the lent lists and the total, 0 where the call was refused.
-pub struct Planned {
-    pub refusal: Kind,
-    pub chosen: u32,
-    pub cuts: u32,
-    pub levels: u32,
-    pub total: u32,
-}
-
-// A hall and the flags of a choice of its rows, or why there is none.
-struct Opened {
-    refusal: Kind,
-    hall: HallRecord,
-    chosen: [bool; 256],
-}
-
-impl Planned {
-    fn refused(refusal: Kind) -> Planned
-        ensures { λ r. ⌜ r ≡ unplanned refusal ⌝ }
-    {
-        Planned {
-            refusal,
-            chosen: 0,
-            cuts: 0,
-            levels: 0,
-            total: 0,
-        }
-    }
-}
-
-impl Told {
-    pub fn refused(refusal: Kind) -> Told
-        ensures { λ r. ⌜ r ≡ refused refusal ⌝ }
-    {
-        Told {
-            refusal,
-            found: Finding::Nothing,
-        }
-    }
-
-    pub fn around(set: Junctions) -> Told
-        ensures { λ r. ⌜ r ≡ surrounded set ⌝ }
-    {
-        Told {
-            refusal: Kind::None,
-            found: Finding::Around(set),
-        }
-    }
-}
-
-// Joins for no shore, else misses with it.
-fn found_by(shore: u64) -> Finding
-    ensures { λ r. ⌜ r ≡ missing (if-some shore) ⌝ }
+fn told_places(told: Told) -> [u64; 4]
+    ensures { λ r. ⌜ r ≡ told-places told ⌝ }
 {
-    if shore == 0 {
-        Finding::Joins
-    } else {
-        Finding::Misses(Junctions(shore))
-    }
+    let refusal = told.refusal;
+    let found = told.found;
+    let number = refusals::number_of(refusal);
+    let row = refusals::row_of(refusal);
+    let outcome = answers::outcome_of(found);
+    let set = answers::set_of(found);
+    [number as u64, row as u64, outcome as u64, set]
 }
 
-// The hall and the flags of a choice, or the first of refusals 2 to 10.
-fn open_choice(file: &[u8], choice: &[u32]) -> Opened
-    ensures { λ r. ⌜ Opening (now (file .entry)) (now (choice .entry)) r ⌝ }
+fn planned_places(planned: Planned) -> [u64; 6]
+    ensures { λ r. ⌜ r ≡ planned-places planned ⌝ }
 {
-    let reading = hallfile::read_hall(file);
-    let refusal = reading.refusal;
-    let hall = reading.hall;
-    let none = [false; 256];
-    if !refusal.is_none() {
-        return Opened {
-            refusal,
-            hall,
-            chosen: none,
-        };
-    }
-    if !choice::ascends(choice, hall.count as u32) {
-        return Opened {
-            refusal: Kind::Choice,
-            hall,
-            chosen: none,
-        };
-    }
-    let chosen = choice::flags(choice);
-    Opened {
-        refusal: Kind::None,
-        hall,
-        chosen,
-    }
+    let refusal = planned.refusal;
+    let number = refusals::number_of(refusal);
+    let row = refusals::row_of(refusal);
+    [
+        number as u64,
+        row as u64,
+        planned.chosen as u64,
+        planned.cuts as u64,
+        planned.levels as u64,
+        planned.total as u64,
+    ]
 }
 
-// Whether a choice joins: refusals 2 to 10 in their order, "joins", or "misses" with the set that the lowest
-// junction that does not reach all reaches.
-pub fn check_choice(file: &[u8], choice: &[u32]) -> Told
-    ensures { λ r. ⌜ Check-says (now (file .entry)) (now (choice .entry)) r ⌝ }
+#[no_mangle]
+pub extern "C" fn himalowen_check(file: &[u8], choice: &[u32], reply: &mut [u64; 4]) -> u32
+    ensures { λ r. ⌜ Check-leaves (now (file .entry)) (now (choice .entry)) r (now (reply .exit)) ⌝ }
 {
-    let opened = open_choice(file, choice);
-    let refusal = opened.refusal;
-    if !refusal.is_none() {
-        return Told::refused(refusal);
-    }
-    let hall = opened.hall;
-    let chosen = opened.chosen;
-    let shore = choice::missed_shore(hall.n, hall.count, &hall.tails, &hall.heads, &chosen);
-    Told {
-        refusal: Kind::None,
-        found: found_by(shore),
-    }
+    let told = checking::check_choice(file, choice);
+    let refusal = told.refusal;
+    *reply = told_places(told);
+    refusals::number_of(refusal)
 }
 
-// The junctions that lie in every tight shore that holds the junction: refusals 2 to 10, the empty set for a junction
-// that the hall does not have, or the check's reply for a choice that misses a cut.
-pub fn tight_neighbourhood(file: &[u8], choice: &[u32], junction: u32) -> Told
-    ensures { λ r. ⌜ Tight-says (now (file .entry)) (now (choice .entry)) junction r ⌝ }
+#[no_mangle]
+pub extern "C" fn himalowen_tight(
+    file: &[u8],
+    choice: &[u32],
+    junction: u32,
+    reply: &mut [u64; 4],
+) -> u32
+    ensures { λ r. ⌜ Tight-leaves (now (file .entry)) (now (choice .entry)) junction r (now (reply .exit)) ⌝ }
 {
-    let opened = open_choice(file, choice);
-    let hall = opened.hall;
-    let v = junction as usize;
-    let outside = (v == 0) | (hall.n < v);
-    let refusal = opened.refusal;
-    let accepted = refusal.is_none();
-    if !accepted {
-        return Told::refused(refusal);
-    }
-    if outside {
-        return Told::around(Junctions::EMPTY);
-    }
-    let chosen = opened.chosen;
-    let shore = choice::missed_shore(hall.n, hall.count, &hall.tails, &hall.heads, &chosen);
-    if shore != 0 {
-        return Told {
-            refusal: Kind::None,
-            found: Finding::Misses(Junctions(shore)),
-        };
-    }
-    Told::around(Junctions(tight::neighbourhood_of(
-        hall.n,
-        hall.count,
-        &hall.tails,
-        &hall.heads,
-        &chosen,
-        v,
-    )))
+    let told = neighbourhood::tight_neighbourhood(file, choice, junction);
+    let refusal = told.refusal;
+    *reply = told_places(told);
+    refusals::number_of(refusal)
 }
 
-// Some lent list is shorter than a plan may need.
-fn lists_short(rows: usize, shores: usize, weights: usize, levels: usize) -> bool
-    ensures { λ r. ⌜ r ≡ (ltb rows 256 || (ltb shores 125 || (ltb weights 125 || ltb levels 64))) ⌝ }
-{
-    (rows < 256) | ((shores < 125) | ((weights < 125) | (levels < 64)))
-}
-
-// The plan of a hall that was read, into lent lists that are long enough.
-fn plan_hall(
-    hall: HallRecord,
-    rows: &mut [u32],
-    shores: &mut [u64],
-    weights: &mut [u32],
-    levels: &mut [i32],
-) -> Planned
-    requires { ⌜ (256 ≤ length (now rows)) × (125 ≤ length (now shores)) × (125 ≤ length (now weights)) × (64 ≤ length (now levels))
-        × ((bs : List ℕ) × (eqb (hall-refusal bs .number) 0 ≡ true) × (hall ≡ record-of (hall-in bs))) ⌝ }
-    ensures { λ r. ⌜ ((bs : List ℕ) → eqb (hall-refusal bs .number) 0 ≡ true → hall ≡ record-of (hall-in bs) →
-        Plan-as 0 (refusal 0 0) (hall-in bs) r (now (rows .entry)) (now (rows .exit)) (now (shores .entry)) (now (shores .exit))
-        (now (weights .entry)) (now (weights .exit)) (now (levels .entry)) (now (levels .exit))) ⌝ }
-{
-    let every = [true; 256];
-    let links = adjacency::of_rows(hall.n, hall.count, &hall.tails, &hall.heads, &every);
-    let least = plan::cheapest(hall.n, hall.count, &hall.tails, &hall.heads, &hall.prices);
-    let cuts = cuts::fill(
-        hall.n,
-        &links,
-        &least.around,
-        &least.potential,
-        shores,
-        weights,
-        levels,
-    );
-    let chosen = least.chosen;
-    let potential = least.potential;
-    let around = least.around;
-    let first = plan::first_choice(
-        hall.n,
-        hall.count,
-        &hall.tails,
-        &hall.heads,
-        &hall.prices,
-        chosen,
-        potential,
-        around,
-    );
-    let count = ledger::listing::list_rows(hall.count, &first, rows);
-    let total = ledger::listing::total_of(hall.count, &hall.prices, &first);
-    Planned {
-        refusal: Kind::None,
-        chosen: count as u32,
-        cuts: cuts as u32,
-        levels: hall.n as u32,
-        total,
-    }
-}
-
-// The plan with the shores and the weights of its cuts in two lists of numbers.
-pub fn plan_core(
+#[no_mangle]
+pub extern "C" fn himalowen_plan(
     file: &[u8],
     rows: &mut [u32],
     shores: &mut [u64],
     weights: &mut [u32],
     levels: &mut [i32],
-) -> Planned
-    ensures { λ r. ⌜ Plan-says (now (file .entry)) r (now (rows .entry)) (now (rows .exit)) (now (shores .entry)) (now (shores .exit))
-        (now (weights .entry)) (now (weights .exit)) (now (levels .entry)) (now (levels .exit)) ⌝ }
+    reply: &mut [u64; 6],
+) -> u32
+    ensures { λ r. ⌜ Plan-leaves (now (file .entry)) r (now (reply .exit)) (now (rows .entry)) (now (rows .exit))
+        (now (shores .entry)) (now (shores .exit)) (now (weights .entry)) (now (weights .exit)) (now (levels .entry)) (now (levels .exit)) ⌝ }
 {
-    if lists_short(rows.len(), shores.len(), weights.len(), levels.len()) {
-        return Planned::refused(Kind::ListShort);
-    }
-    let reading = hallfile::read_hall(file);
-    let refusal = reading.refusal;
-    if !refusal.is_none() {
-        return Planned::refused(refusal);
-    }
-    let hall = reading.hall;
-    plan_hall(hall, rows, shores, weights, levels)
-}
-
-// A plan's reply, and its cuts as two number lists.
-struct Outline {
-    planned: Planned,
-    count: usize,
-    lists: Lists,
-}
-
-// The plan, but for the cuts, which are to go into a list of so many places.
-fn plan_outline(file: &[u8], rows: &mut [u32], room: usize, levels: &mut [i32]) -> Outline
-    ensures { λ r. ⌜ Outlined (now (file .entry)) room r (now (rows .entry)) (now (rows .exit)) (now (levels .entry)) (now (levels .exit)) ⌝ }
-{
-    let mut shores = [0u64; 125];
-    let mut weights = [0u32; 125];
-    if room < 125 {
-        let lists = Lists { shores, weights };
-        return Outline {
-            planned: Planned::refused(Kind::ListShort),
-            count: 0,
-            lists,
-        };
-    }
-    let planned = plan_core(file, rows, &mut shores, &mut weights, levels);
-    let lists = Lists { shores, weights };
-    let cuts = planned.cuts;
-    Outline {
-        planned,
-        count: cuts as usize,
-        lists,
-    }
-}
-
-// The first joining choice by total, row count and dictionary order, with cuts and levels beside it: into the lent lists,
-// from the front. Refusal 1 where a list is too short, then 2 to 9.
-pub fn plan_lanes(file: &[u8], rows: &mut [u32], cuts: &mut [Cut], levels: &mut [i32]) -> Planned
-    ensures { λ r. ⌜ Lent-says (now (file .entry)) r (now (rows .entry)) (now (rows .exit)) (now (cuts .entry)) (now (cuts .exit))
-        (now (levels .entry)) (now (levels .exit)) ⌝ }
-{
-    let outline = plan_outline(file, rows, cuts.len(), levels);
-    cutlist::write_cuts(cuts, outline.lists, outline.count);
-    outline.planned
+    let planned = planning::plan_core(file, rows, shores, weights, levels);
+    let refusal = planned.refusal;
+    *reply = planned_places(planned);
+    refusals::number_of(refusal)
 }

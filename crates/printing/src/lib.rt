@@ -11,10 +11,10 @@ ghost use Rattle.hall.specs.Plan.{cut};
 ghost use Rattle.printing.specs.Placed.{Put, In-front};
 ghost use Rattle.printing.specs.Printed.{decimal, item, each, number-line, pair-line, four-line, row-line, set-text, cut-line, level-item, choice-lines, cut-lines, levels-line, printed-plan, printed-refusal};
 ghost use Rattle.printing.specs.Recorded.{hall-of, cuts-of, Printable};
-ghost use Rattle.hallfile.specs.Kinds.{refusal-of};
+ghost use Rattle.refusals.specs.Kinds.{refusal-of};
 use hallfile::HallRecord;
-use hallfile::Kind;
 use junctions::Junctions;
+use refusals::Kind;
 
 fn put_byte(out: &mut [u8], at: usize, byte: u8) -> usize
     requires { ⌜ at < length (now out) ⌝ }

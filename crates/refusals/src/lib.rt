@@ -1,7 +1,40 @@
-// A refusal as document 01 counts it: its number and its row.
+// Why a call is turned back: the kinds of documents 01 and 02, each with the number and the row that the papers give it.
 ghost use mathlib.Core.Path.{_≡_};
-ghost use Rattle.hallfile.specs.Kinds.{refusal-of};
-use hallfile::Kind;
+ghost use lib.Dec.{eqb};
+ghost use Rattle.refusals.specs.Kinds.{refusal-of};
+
+// What turns a call back; the kinds of a row carry its number, from 1.
+pub enum Kind {
+    None,
+    ListShort,
+    FileLength,
+    JunctionCount,
+    Blocks,
+    RowCount,
+    RowEnds(u32),
+    RowLoop(u32),
+    RowPrice(u32),
+    Unjoined,
+    Choice,
+    RouteEnd,
+    Site,
+    HallCount,
+    KitStock,
+    FixedCut,
+    LoadWidth,
+    SitePlace,
+    Bridge,
+    FixedRow,
+    LoneRow,
+}
+
+impl Kind {
+    pub fn is_none(self) -> bool
+        ensures { λ r. ⌜ r ≡ eqb (refusal-of self .number) 0 ⌝ }
+    {
+        number_of(self) == 0
+    }
+}
 
 // The number of a refusal, 0 for none.
 pub fn number_of(kind: Kind) -> u32
@@ -19,6 +52,16 @@ pub fn number_of(kind: Kind) -> u32
         Kind::RowPrice(_) => 8,
         Kind::Unjoined => 9,
         Kind::Choice => 10,
+        Kind::RouteEnd => 11,
+        Kind::Site => 12,
+        Kind::HallCount => 13,
+        Kind::KitStock => 14,
+        Kind::FixedCut => 15,
+        Kind::LoadWidth => 16,
+        Kind::SitePlace => 17,
+        Kind::Bridge => 18,
+        Kind::FixedRow => 19,
+        Kind::LoneRow => 20,
     }
 }
 

@@ -14,11 +14,11 @@ use Rattle.hall.specs.Hall.{Hall, count}
 use Rattle.hall.specs.File.{Refusal, refusal, hall-in, hall-refusal}
 use Rattle.hall.specs.Plan.{Cut, cut, First, Beside, total, levels, levels-from, most-cuts}
 use Rattle.hallfile.specs.declared.HallRecord.{HallRecord}
-use Rattle.hallfile.specs.Kinds.{refusal-of}
+use Rattle.refusals.specs.Kinds.{refusal-of}
 use Rattle.hallfile.specs.Record.{record-of}
-use Rattle.himalowen.specs.declared.Planned.{Planned}
-use Rattle.himalowen.specs.Entry.{plan-refusal, shores, weights, in-front, Filled, Turned, Plan-as, Plan-says}
-use Rattle.himalowen.proofs.Lent.{shores-length, weights-length}
+use Rattle.planning.specs.declared.Planned.{Planned}
+use Rattle.planning.specs.Plan.{plan-refusal, shores, weights, in-front, Filled, Turned, Plan-as, Plan-says}
+use Rattle.planning.proofs.Lent.{shores-length, weights-length}
 use Rattle.printing.specs.Printed.{printed-plan, printed-refusal}
 use Rattle.printing.specs.Placed.{In-front}
 use Rattle.printing.specs.Recorded.{hall-of, cuts-of, Printable}

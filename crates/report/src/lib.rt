@@ -12,7 +12,7 @@ pub fn report(file: &[u8], out: &mut [u8]) -> usize
     let mut shores = [0u64; 125];
     let mut weights = [0u32; 125];
     let mut levels = [0i32; 64];
-    let planned = himalowen::plan_core(file, &mut rows, &mut shores, &mut weights, &mut levels);
+    let planned = planning::plan_core(file, &mut rows, &mut shores, &mut weights, &mut levels);
     let refusal = planned.refusal;
     if !refusal.is_none() {
         return printing::print_kind(out, refusal);

@@ -4,10 +4,10 @@ ghost use Prim.Native.Nat.{ℕ};
 ghost use Rattle.hall.specs.Hall.{Hall};
 ghost use Rattle.dicuts.specs.Shores.{Ranged, Joining, once};
 ghost use Rattle.columns.specs.Columns.{Ends, Columns, Neighbourhoods, flagged};
-ghost use Rattle.himalowen.specs.declared.Told.{Told};
-ghost use Rattle.himalowen.specs.Answers.{set-of};
-ghost use Rattle.himalowen.specs.Entry.{Tight-says};
-use himalowen::Finding;
+ghost use Rattle.answers.specs.declared.Told.{Told};
+ghost use Rattle.answers.specs.Answers.{set-of};
+ghost use Rattle.neighbourhood.specs.Tight.{Tight-says};
+use answers::Finding;
 
 #[no_mangle]
 pub extern "C" fn tightbench_all<'a>(
@@ -39,7 +39,7 @@ fn set_in(found: Finding) -> u64
 pub extern "C" fn tightbench_one(file: &[u8], choice: &[u32], junction: u32) -> u64
     ensures { λ r. ⌜ ((t : Told) × Tight-says (now (file .entry)) (now (choice .entry)) junction t × (r ≡ set-of (t .found))) ⌝ }
 {
-    let told = himalowen::tight_neighbourhood(file, choice, junction);
+    let told = neighbourhood::tight_neighbourhood(file, choice, junction);
     let found = told.found;
     set_in(found)
 }

@@ -5,7 +5,7 @@ use libc::STDOUT_FILENO;
 fn print_neighbourhood(file: &[u8], rows: [u32; 257], count: usize, junction: u32)
     requires { ⌜ count ≤ 257 ⌝ }
 {
-    console::print_told(himalowen::tight_neighbourhood(file, &rows[..count], junction));
+    console::print_told(neighbourhood::tight_neighbourhood(file, &rows[..count], junction));
 }
 
 fn look_around(name: &[u8], rows: &[u8], junction: &[u8]) {

@@ -2,5 +2,5 @@
 // and random numbers.
 pub mod file;
 pub mod marks;
-pub mod planning;
+pub mod plans;
 pub mod random;

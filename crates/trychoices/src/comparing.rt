@@ -2,10 +2,10 @@
 ghost use Prim.Native.Nat.{_≤_};
 use exhaustive::Choice;
 use exhaustive::Small;
-use hallfile::Kind;
+use refusals::Kind;
 use tries::file;
-use tries::planning;
-use tries::planning::Tried;
+use tries::plans;
+use tries::plans::Tried;
 
 pub enum Outcome {
     Same,
@@ -56,12 +56,12 @@ fn judged(file: &[u8], tried: Tried, choice: Choice) -> Outcome
     let refusal = planned.refusal;
     match refusal {
         Kind::None => {
-            if is_choice(tried, choice) & planning::sound(file, tried) {
+            if is_choice(tried, choice) & plans::sound(file, tried) {
                 return Outcome::Same;
             }
         }
         Kind::Unjoined => {
-            if !choice.joins & planning::untouched(lists) {
+            if !choice.joins & plans::untouched(lists) {
                 return Outcome::Unjoined;
             }
         }
@@ -75,6 +75,6 @@ pub fn compared(hall: Small) -> Outcome
 {
     let file = file::of_small(hall);
     let size = file::length(hall.count);
-    let tried = planning::plan(&file[..size], 256, 125, 125, 64);
+    let tried = plans::plan(&file[..size], 256, 125, 125, 64);
     judged(&file[..size], tried, exhaustive::first_choice(hall))
 }

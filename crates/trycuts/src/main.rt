@@ -1,8 +1,8 @@
 // Plans halls: for each hall file of the arguments prints the choice, its total and the number of cuts, and what an audit of
 // the plan by the definitions finds.
 ghost use Prim.Native.Nat.{_≤_};
+use answers::Told;
 use audit::Fault;
-use himalowen::Told;
 use libc::STDOUT_FILENO;
 
 fn print_number(number: u32) {
@@ -68,7 +68,7 @@ fn plan_file(file: &[u8]) {
     let mut shores = [0u64; 125];
     let mut weights = [0u32; 125];
     let mut levels = [0i32; 64];
-    let planned = himalowen::plan_core(file, &mut rows, &mut shores, &mut weights, &mut levels);
+    let planned = planning::plan_core(file, &mut rows, &mut shores, &mut weights, &mut levels);
     let refusal = planned.refusal;
     if !refusal.is_none() {
         console::print_told(Told::refused(refusal));

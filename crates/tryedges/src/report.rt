@@ -1,9 +1,9 @@
 // A line for each plan: the rows, the total and the number of cuts, or the refusal, and whether the lists are as they should be.
 ghost use Prim.Native.Nat.{_≤_};
-use himalowen::Told;
+use answers::Told;
 use libc::STDOUT_FILENO;
-use tries::planning;
-use tries::planning::Tried;
+use tries::plans;
+use tries::plans::Tried;
 
 fn print_item(word: &[u8], number: u64) {
     io::write_all(STDOUT_FILENO, word);
@@ -42,7 +42,7 @@ fn print_tried(name: &[u8], file: &[u8], tried: Tried) {
     let lists = tried.lists;
     let refusal = planned.refusal;
     if !refusal.is_none() {
-        print_untouched(planning::untouched(lists));
+        print_untouched(plans::untouched(lists));
         console::print_told(Told::refused(refusal));
         return;
     }
@@ -51,7 +51,7 @@ fn print_tried(name: &[u8], file: &[u8], tried: Tried) {
     print_rows(rows, planned.chosen as usize);
     print_item(b" TOTAL ", planned.total as u64);
     print_item(b" CUTS ", planned.cuts as u64);
-    print_sound(planning::sound(file, tried));
+    print_sound(plans::sound(file, tried));
 }
 
 // The plan of the first bytes of a file, with lists of so many places.
@@ -66,7 +66,7 @@ pub fn try_lent(
 )
     requires { ⌜ (size ≤ 2068) × (rows ≤ 256) × (shores ≤ 125) × (weights ≤ 125) × (levels ≤ 64) ⌝ }
 {
-    let tried = planning::plan(&bytes[..size], rows, shores, weights, levels);
+    let tried = plans::plan(&bytes[..size], rows, shores, weights, levels);
     print_tried(name, &bytes[..size], tried);
 }
 

@@ -13,17 +13,18 @@ use Rattle.joining.proofs.Sound.{sound-ranged, sound-connected, sound-unconnect
 use Rattle.columns.specs.Columns.{Columns}
 use Rattle.hallfile.specs.declared.HallRecord.{HallRecord}
 use Rattle.hallfile.specs.Record.{record-of}
-use Rattle.hallfile.specs.declared.Kind.the-variants.{Unjoined}
-use Rattle.hallfile.specs.Kinds.{refusal-of}
+use Rattle.refusals.specs.declared.Kind.the-variants.{Unjoined}
+use Rattle.refusals.specs.Kinds.{refusal-of}
 use Rattle.hallfile.specs.Shape.{shape-refusal}
 use Rattle.hallfile.proofs.Order.{shape-refused, shape-sound}
 use Rattle.hallfile.proofs.Records.{record-columns, record-ends}
-use Rattle.hallfile.proofs.Reply.{kind-none, is-refused, is-fine, reply-kind, reply-hall, reply-record}
+use Rattle.refusals.proofs.Numbers.{kind-none, is-refused, is-fine}
+use Rattle.hallfile.proofs.Reply.{reply-kind, reply-hall, reply-record}
 use Rattle.hallfile.proofs.read_hall.Statement.{statement}
 use Rattle.hallfile.proofs.read_hall.Tie as tie
 use Rattle.hallfile.proofs.read_hall.Reads as reads
 use Rattle.hallfile.proofs.read_hall.Lts as lts
-use Rattle.hallfile.proofs.Kind.is_none.Reads as is-none-reads
+use Rattle.refusals.proofs.Kind.is_none.Reads as is-none-reads
 use Rattle.hallfile.proofs.Reading.refused.Reads as refused-reads
 use Rattle.hallfile.proofs.connected.is_connected.Reads as is-connected-reads
 use Rattle.hallfile.proofs.read_shape.Reads as read-shape-reads

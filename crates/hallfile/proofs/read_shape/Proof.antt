@@ -4,8 +4,8 @@ use native.Mathlib.Omega.{arith}
 use borrow.Author.Tests.{not-true, not-false}
 use borrow.Author.Needs.{needs}
 use Rattle.hall.specs.File.{refusal}
-use Rattle.hallfile.specs.declared.Kind.the-variants.{FileLength, JunctionCount, Blocks, RowCount}
-use Rattle.hallfile.specs.Kinds.{refusal-of}
+use Rattle.refusals.specs.declared.Kind.the-variants.{FileLength, JunctionCount, Blocks, RowCount}
+use Rattle.refusals.specs.Kinds.{refusal-of}
 use Rattle.hallfile.proofs.Reply.{reply-kind}
 use Rattle.hallfile.proofs.Order.{length-low, junctions-high, table-of, refuse-length, refuse-junctions, refuse-table, refuse-count, refuse-rows, blocks-is, hall-is}
 use Rattle.hallfile.proofs.read_shape.Statement.{statement}

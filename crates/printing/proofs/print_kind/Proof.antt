@@ -1,6 +1,6 @@
 -- `printing::print_kind` meets its contract: the number and the row of the kind. Assumes nothing.
 use borrow.Author.Needs.{needs}
-use Rattle.hallfile.specs.Kinds.{refusal-of}
+use Rattle.refusals.specs.Kinds.{refusal-of}
 use Rattle.printing.proofs.Parts.{refusal-is}
 use Rattle.printing.proofs.print_kind.Statement.{statement}
 use Rattle.printing.proofs.print_kind.Tie as tie

@@ -2,8 +2,8 @@
 use mathlib.Core.Path.{sym, ap}
 use borrow.Author.Needs.{needs}
 use Rattle.hall.specs.File.{refusal}
-use Rattle.hallfile.specs.declared.Kind.{Kind}
-use Rattle.hallfile.specs.Kinds.{refusal-of}
+use Rattle.refusals.specs.declared.Kind.{Kind}
+use Rattle.refusals.specs.Kinds.{refusal-of}
 use Rattle.refusals.proofs.number_of.Statement.{statement}
 use Rattle.refusals.proofs.number_of.Tie as tie
 
@@ -39,6 +39,36 @@ enum-told-10 c = search needs
 
 enum-told-11 : tie.Need-enum-told-11
 enum-told-11 c = search needs
+
+enum-told-12 : tie.Need-enum-told-12
+enum-told-12 c = search needs
+
+enum-told-13 : tie.Need-enum-told-13
+enum-told-13 c = search needs
+
+enum-told-14 : tie.Need-enum-told-14
+enum-told-14 c = search needs
+
+enum-told-15 : tie.Need-enum-told-15
+enum-told-15 c = search needs
+
+enum-told-16 : tie.Need-enum-told-16
+enum-told-16 c = search needs
+
+enum-told-17 : tie.Need-enum-told-17
+enum-told-17 c = search needs
+
+enum-told-18 : tie.Need-enum-told-18
+enum-told-18 c = search needs
+
+enum-told-19 : tie.Need-enum-told-19
+enum-told-19 c = search needs
+
+enum-told-20 : tie.Need-enum-told-20
+enum-told-20 c = search needs
+
+enum-told-21 : tie.Need-enum-told-21
+enum-told-21 c = search needs
 
 returns : tie.Need-returns
 unfolding refusal-of refusal
@@ -84,6 +114,46 @@ returns-11 : tie.Need-returns-11
 unfolding refusal-of refusal
 returns-11 c = ap (λ (k : Kind). refusal-of k .number) (sym (c .enum-told11 .given .1))
 
+returns-12 : tie.Need-returns-12
+unfolding refusal-of refusal
+returns-12 c = ap (λ (k : Kind). refusal-of k .number) (sym (c .enum-told12 .given .1))
+
+returns-13 : tie.Need-returns-13
+unfolding refusal-of refusal
+returns-13 c = ap (λ (k : Kind). refusal-of k .number) (sym (c .enum-told13 .given .1))
+
+returns-14 : tie.Need-returns-14
+unfolding refusal-of refusal
+returns-14 c = ap (λ (k : Kind). refusal-of k .number) (sym (c .enum-told14 .given .1))
+
+returns-15 : tie.Need-returns-15
+unfolding refusal-of refusal
+returns-15 c = ap (λ (k : Kind). refusal-of k .number) (sym (c .enum-told15 .given .1))
+
+returns-16 : tie.Need-returns-16
+unfolding refusal-of refusal
+returns-16 c = ap (λ (k : Kind). refusal-of k .number) (sym (c .enum-told16 .given .1))
+
+returns-17 : tie.Need-returns-17
+unfolding refusal-of refusal
+returns-17 c = ap (λ (k : Kind). refusal-of k .number) (sym (c .enum-told17 .given .1))
+
+returns-18 : tie.Need-returns-18
+unfolding refusal-of refusal
+returns-18 c = ap (λ (k : Kind). refusal-of k .number) (sym (c .enum-told18 .given .1))
+
+returns-19 : tie.Need-returns-19
+unfolding refusal-of refusal
+returns-19 c = ap (λ (k : Kind). refusal-of k .number) (sym (c .enum-told19 .given .1))
+
+returns-20 : tie.Need-returns-20
+unfolding refusal-of refusal
+returns-20 c = ap (λ (k : Kind). refusal-of k .number) (sym (c .enum-told20 .given .1))
+
+returns-21 : tie.Need-returns-21
+unfolding refusal-of refusal
+returns-21 c = ap (λ (k : Kind). refusal-of k .number) (sym (c .enum-told21 .given .1))
+
 pub number-of-spec : {M : Type 1} → statement M
 number-of-spec =
     tie.close
@@ -99,6 +169,16 @@ number-of-spec =
     enum-told-9
     enum-told-10
     enum-told-11
+    enum-told-12
+    enum-told-13
+    enum-told-14
+    enum-told-15
+    enum-told-16
+    enum-told-17
+    enum-told-18
+    enum-told-19
+    enum-told-20
+    enum-told-21
     returns
     returns-2
     returns-3
@@ -109,4 +189,14 @@ number-of-spec =
     returns-8
     returns-9
     returns-10
-    returns-11)
+    returns-11
+    returns-12
+    returns-13
+    returns-14
+    returns-15
+    returns-16
+    returns-17
+    returns-18
+    returns-19
+    returns-20
+    returns-21)

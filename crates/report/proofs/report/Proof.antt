@@ -9,18 +9,18 @@ use borrow.Author.Needs.{needs}
 use borrow.Author.Tests.{not-true, not-false, eq-eqb}
 use Rattle.hall.specs.File.{hall-in, hall-refusal}
 use Rattle.hallfile.proofs.Reply.{reply-record}
-use Rattle.himalowen.specs.declared.Planned.{Planned}
-use Rattle.himalowen.specs.Entry.{Plan-as}
-use Rattle.himalowen.proofs.Reading.{sound}
+use Rattle.planning.specs.declared.Planned.{Planned}
+use Rattle.planning.specs.Plan.{Plan-as}
+use Rattle.hallfile.proofs.Accepted.{sound}
 use Rattle.report.specs.Report.{Report-says}
 use Rattle.report.proofs.Lists.{full-lists, report-refused, number-none, Lists, plan-lists, printable, report-planned}
 use Rattle.report.proofs.report.Statement.{statement}
 use Rattle.report.proofs.report.Tie as tie
 use Rattle.report.proofs.report.Reads as reads
 use Rattle.report.proofs.report.Lts as lts
-use Rattle.hallfile.proofs.Kind.is_none.Reads as is-none-reads
+use Rattle.refusals.proofs.Kind.is_none.Reads as is-none-reads
 use Rattle.hallfile.proofs.read_hall.Reads as read-hall-reads
-use Rattle.himalowen.proofs.plan_core.Reads as plan-core-reads
+use Rattle.planning.proofs.plan_core.Reads as plan-core-reads
 use Rattle.printing.proofs.print_kind.Reads as print-kind-reads
 use Rattle.printing.proofs.print_plan.Reads as print-plan-reads
 

@@ -1,7 +1,7 @@
 -- `tightbench::set_in` meets its contract: finding by finding. Assumes nothing.
 use mathlib.Core.Path.{sym, ap}
 use borrow.Author.Needs.{needs}
-use Rattle.himalowen.specs.Answers.{set-of}
+use Rattle.answers.specs.Answers.{set-of}
 use Rattle.tightbench.proofs.set_in.Statement.{statement}
 use Rattle.tightbench.proofs.set_in.Tie as tie
 

@@ -1,7 +1,7 @@
 -- `hallfile::rows::lane_refusal` meets its contract, test by test. Assumes nothing.
 use mathlib.Core.Path.{sym}
 use Rattle.hall.specs.Hall.{row-of}
-use Rattle.hallfile.specs.Kinds.{refusal-of}
+use Rattle.refusals.specs.Kinds.{refusal-of}
 use Rattle.hallfile.proofs.Refusals.{refuse-ends, refuse-loop, refuse-price, refuse-none}
 use Rattle.hallfile.proofs.rows.lane_refusal.Statement.{statement}
 use Rattle.hallfile.proofs.rows.lane_refusal.Tie as tie

@@ -7,17 +7,18 @@ use lib.Dec.{eqb}
 use borrow.Author.Needs.{needs}
 use Rattle.hall.specs.File.{refusal, blocks}
 use Rattle.hall.specs.Hall.{row-of}
-use Rattle.hallfile.specs.Kinds.{refusal-of}
+use Rattle.refusals.specs.Kinds.{refusal-of}
 use Rattle.hallfile.specs.Places.{row-refusal}
 use Rattle.hallfile.specs.Record.{padded}
 use Rattle.hallfile.proofs.Refusals.{fine-row, fine-ends}
-use Rattle.hallfile.proofs.Reply.{is-fine, is-refused, reply-refused, reply-hall}
+use Rattle.refusals.proofs.Numbers.{is-fine, is-refused}
+use Rattle.hallfile.proofs.Reply.{reply-refused, reply-hall}
 use Rattle.hallfile.proofs.Progress.{Progress, progress-left, progress-none, progress-more, progress-ends, progress-all}
 use Rattle.hallfile.proofs.rows.read_rows.Statement.{statement}
 use Rattle.hallfile.proofs.rows.read_rows.Tie as tie
 use Rattle.hallfile.proofs.rows.read_rows.Reads as reads
 use Rattle.hallfile.proofs.rows.read_rows.Lts as lts
-use Rattle.hallfile.proofs.Kind.is_none.Reads as is-none-reads
+use Rattle.refusals.proofs.Kind.is_none.Reads as is-none-reads
 use Rattle.hallfile.proofs.Reading.refused.Reads as refused-reads
 use Rattle.hallfile.proofs.rows.lane_refusal.Reads as lane-refusal-reads
 use Rattle.hallfile.proofs.view.next_row.Reads as next-row-reads

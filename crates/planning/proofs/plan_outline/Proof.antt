@@ -1,0 +1,53 @@
+-- `planning::plan_outline` meets its contract. Assumes nothing.
+use mathlib.Core.Path.{refl}
+use native.Mathlib.Omega.{arith}
+use borrow.Author.Needs.{needs}
+use Rattle.planning.proofs.Lent.{short-outlined, made-outlined}
+use Rattle.planning.proofs.plan_outline.Statement.{statement}
+use Rattle.planning.proofs.plan_outline.Tie as tie
+
+refused-requires : tie.Need-refused-requires
+refused-requires c κs = search needs
+
+returns : tie.Need-returns
+returns c =
+    let s = c .before .before .before .before .args in
+    rw (c .refused .ensures) (short-outlined (s .file .now) (s .rows .now) (s .levels .now) (s .room) _ (omega arith))
+
+slice-aggregate-plan-core : tie.Need-slice-aggregate-plan-core
+slice-aggregate-plan-core c = search needs
+
+slice-aggregate-plan-core-2 : tie.Need-slice-aggregate-plan-core-2
+slice-aggregate-plan-core-2 c = search needs
+
+plan-core-requires : tie.Need-plan-core-requires
+plan-core-requires c κs = search needs
+
+cast-t26 : tie.Need-cast-t26
+cast-t26 c = search needs
+
+same-length : tie.Need-same-length
+same-length c = search needs
+
+same-length-2 : tie.Need-same-length-2
+same-length-2 c = search needs
+
+returns-2 : tie.Need-returns-2
+returns-2 c =
+    let s = c .before .before .before .before .before in
+    let a = s .before .before .before .before .before .before .before .before .args in
+    made-outlined (a .file .now) (a .rows .now) (a .levels .now) _ _ (s .plan-core .result) _ _ _ _ (a .room) refl refl (search needs) (omega arith) (s .plan-core .ensures)
+
+pub plan-outline-spec : {M : Type 1} → statement M
+plan-outline-spec =
+    tie.close
+    (tie.spec
+    refused-requires
+    returns
+    slice-aggregate-plan-core
+    slice-aggregate-plan-core-2
+    plan-core-requires
+    cast-t26
+    same-length
+    same-length-2
+    returns-2)

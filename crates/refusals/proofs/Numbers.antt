@@ -1,0 +1,42 @@
+-- What a kind's number says of its row, and a kind's test of the refusal that it is. Assumes nothing.
+use mathlib.Core.Path.{_≡_, refl, sym, ap, _∙_}
+use mathlib.Core.Bool.{Bool, true, false, not}
+use lib.Dec.{eqb}
+use borrow.Author.Tests.{not-true, not-false}
+use Rattle.laws.proofs.Booleans.{clash}
+use Rattle.hall.specs.File.{Refusal, refusal}
+use Rattle.refusals.specs.declared.Kind.{Kind}
+use Rattle.refusals.specs.declared.Kind.the-variants.{None, ListShort, FileLength, JunctionCount, Blocks, RowCount, RowEnds, RowLoop, RowPrice, Unjoined, Choice, RouteEnd, Site, HallCount, KitStock, FixedCut, LoadWidth, SitePlace, Bridge, FixedRow, LoneRow}
+use Rattle.refusals.specs.Kinds.{refusal-of}
+
+-- a kind without a number carries no row
+pub kind-none : (k : Kind) → eqb (refusal-of k .number) 0 ≡ true → refusal-of k ≡ refusal 0 0
+unfolding refusal-of refusal
+kind-none None t = refl
+kind-none ListShort t = clash t refl
+kind-none FileLength t = clash t refl
+kind-none JunctionCount t = clash t refl
+kind-none Blocks t = clash t refl
+kind-none RowCount t = clash t refl
+kind-none (RowEnds i) t = clash t refl
+kind-none (RowLoop i) t = clash t refl
+kind-none (RowPrice i) t = clash t refl
+kind-none Unjoined t = clash t refl
+kind-none Choice t = clash t refl
+kind-none RouteEnd t = clash t refl
+kind-none Site t = clash t refl
+kind-none HallCount t = clash t refl
+kind-none KitStock t = clash t refl
+kind-none FixedCut t = clash t refl
+kind-none LoadWidth t = clash t refl
+kind-none SitePlace t = clash t refl
+kind-none Bridge t = clash t refl
+kind-none FixedRow t = clash t refl
+kind-none LoneRow t = clash t refl
+
+-- what a kind's test says of the refusal that it is
+pub is-refused : (k : Kind) (w : Refusal) (b : Bool) → refusal-of k ≡ w → b ≡ eqb (refusal-of k .number) 0 → not b ≡ true → eqb (w .number) 0 ≡ false
+is-refused k w b e q t = ap (λ (v : Refusal). eqb (v .number) 0) (sym e) ∙ sym q ∙ not-true b t
+
+pub is-fine : (k : Kind) (w : Refusal) (b : Bool) → refusal-of k ≡ w → b ≡ eqb (refusal-of k .number) 0 → not b ≡ false → eqb (w .number) 0 ≡ true
+is-fine k w b e q t = ap (λ (v : Refusal). eqb (v .number) 0) (sym e) ∙ sym q ∙ not-false b t
