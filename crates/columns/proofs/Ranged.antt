@@ -27,3 +27,15 @@ ranged-ends h n m ts hs size few rg cols =
       head-low = λ k less. omega (arith, place-head h n m ts hs cols k less, rg .to-low (suc k) (omega arith) (omega (arith, cols .rows)));
       head-high = λ k less. omega (arith, place-head h n m ts hs cols k less, cols .junctions, rg .to-high (suc k) (omega arith) (omega (arith, cols .rows)));
     }
+
+-- ends among n junctions are among 64
+pub ends-wide : (n m : ℕ) (tails heads : List ℕ) → Ends n m tails heads → Ends 64 m tails heads
+ends-wide n m tails heads e =
+    record {
+      size = omega arith;
+      few = e .few;
+      tail-low = e .tail-low;
+      tail-high = λ k l. omega (arith, e .tail-high k l, e .size);
+      head-low = e .head-low;
+      head-high = λ k l. omega (arith, e .head-high k l, e .size);
+    }

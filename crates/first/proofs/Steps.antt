@@ -28,8 +28,8 @@ use Rattle.deciding.specs.Deciding.{opened, Deciding}
 use Rattle.deciding.proofs.Deciding.{deciding-in, deciding-out, deciding-raise, deciding-flip, deciding-same}
 use Rattle.columns.specs.Columns.{at, flagged, Columns}
 use Rattle.columns.proofs.Places.{place-tail, place-head}
-use Rattle.planner.specs.Zero.{Zero-graph}
-use Rattle.planner.proofs.Rows.{cost-here, tail-level, head-level}
+use Rattle.zerograph.specs.Zero.{Zero-graph}
+use Rattle.zerograph.proofs.Rows.{cost-here, tail-level, head-level}
 use Rattle.first.specs.Standing.{Movable}
 
 turned-round : (b c : Bool) → not b ≡ c → b ≡ not c

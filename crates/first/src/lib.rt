@@ -1,10 +1,10 @@
 // The first choice of least ranked cost: row by row, each is decided for good.
+use flip::flip;
+use junctions::has;
 use junctions::place;
-use planner::flip::flip;
-use planner::places::has;
-use planner::raise::raise;
-use planner::repair::State;
-use planner::zero::zero_graph;
+use raise::raise;
+use repair::State;
+use zerograph::zero_graph;
 ghost use mathlib.Core.Path.{_≡_};
 ghost use Prim.Native.Nat.{ℕ, suc, _+_, _^_, _≤_, _<_};
 ghost use lib.ListN.{length, getD};
@@ -15,7 +15,7 @@ ghost use Rattle.potentials.specs.Repair.{Repaired};
 ghost use Rattle.order.specs.Ranked.{ranked};
 ghost use Rattle.choicelists.specs.Listed.{listed};
 ghost use Rattle.columns.specs.Columns.{at, flagged, Ends, Columns, Neighbourhoods};
-ghost use Rattle.planner.specs.Low.{Low};
+ghost use Rattle.zerograph.specs.Low.{Low};
 ghost use Rattle.first.specs.Standing.{Movable, Standing};
 
 // Decides the row at place k that is not chosen and has no gap: where its tail reaches its head a route there is flipped and the

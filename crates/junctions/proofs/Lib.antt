@@ -7,3 +7,4 @@ pub mod Complement
 pub mod Bounds
 pub mod Single
 pub mod Gather
+pub mod Taking

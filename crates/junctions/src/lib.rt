@@ -1,9 +1,10 @@
 // Sets of junctions 1 to 64, as the bits of a word: junction j is bit j - 1.
 ghost use mathlib.Core.Path.{_≡_};
-ghost use mathlib.Core.Bool.{Bool, true, false, _&&_, _||_, not};
+ghost use mathlib.Core.Bool.{_&&_};
 ghost use Prim.Native.Nat.{ℕ, suc, _≤_, _<_};
+ghost use lib.Count.{trailingZeros};
 ghost use lib.Dec.{eqb};
-ghost use Rattle.junctions.specs.Sets.{holds, full, with-junction, Within, Lowest};
+ghost use Rattle.junctions.specs.Sets.{holds, full};
 
 pub struct Junctions(pub u64);
 
@@ -28,50 +29,6 @@ impl Junctions {
     {
         (self.0 >> (j - 1)) % 2 == 1
     }
-
-    pub fn insert(self, j: usize) -> Junctions
-        requires { ⌜ (1 ≤ j) × (j ≤ 64) ⌝ }
-        ensures { λ r. ⌜ r .0 ≡ with-junction j (self .0) ⌝ }
-    {
-        Junctions(self.0 | (1 << (j - 1)))
-    }
-
-    pub fn union(self, other: Junctions) -> Junctions
-        ensures { λ r. ⌜ ((j : ℕ) → holds (r .0) j ≡ (holds (self .0) j || holds (other .0) j)) ⌝ }
-    {
-        Junctions(self.0 | other.0)
-    }
-
-    pub fn intersection(self, other: Junctions) -> Junctions
-        ensures { λ r. ⌜ ((j : ℕ) → holds (r .0) j ≡ (holds (self .0) j && holds (other .0) j)) ⌝ }
-    {
-        Junctions(self.0 & other.0)
-    }
-
-    pub fn difference(self, other: Junctions) -> Junctions
-        ensures { λ r. ⌜ ((j : ℕ) → holds (r .0) j ≡ (holds (self .0) j && not (holds (other .0) j))) ⌝ }
-    {
-        Junctions(self.0 ^ (self.0 & other.0))
-    }
-
-    pub fn subset(self, other: Junctions) -> bool
-        ensures { λ r. ⌜ (r ≡ true → Within (self .0) (other .0)) × (Within (self .0) (other .0) → r ≡ true) ⌝ }
-    {
-        self.0 & other.0 == self.0
-    }
-
-    pub fn lowest(self) -> usize
-        requires { ⌜ 0 < self .0 ⌝ }
-        ensures { λ r. ⌜ Lowest (self .0) r ⌝ }
-    {
-        (u64::trailing_zeros(self.0) as usize) + 1
-    }
-
-    pub fn is_empty(self) -> bool
-        ensures { λ r. ⌜ r ≡ eqb (self .0) 0 ⌝ }
-    {
-        self.0 == 0
-    }
 }
 
 // The place of a junction in an array of 64, from 0.
@@ -80,4 +37,35 @@ pub fn place(junction: u8) -> usize
     ensures { λ r. ⌜ (suc r ≡ junction) × (r < 64) ⌝ }
 {
     (junction as usize) - 1
+}
+
+// The number of a junction.
+pub fn number(junction: u8) -> usize
+    ensures { λ r. ⌜ r ≡ junction ⌝ }
+{
+    junction as usize
+}
+
+// The place of the set's lowest junction.
+pub fn lowest(set: u64) -> usize
+    requires { ⌜ 0 < set ⌝ }
+    ensures { λ r. ⌜ (r ≡ trailingZeros 64 set) × (r < 64) ⌝ }
+{
+    u64::trailing_zeros(set) as usize
+}
+
+// The set of the junction at a place where it is there, else the empty set.
+pub fn lone(there: bool, place: usize) -> u64
+    requires { ⌜ place < 64 ⌝ }
+    ensures { λ r. ⌜ ((i : ℕ) → 1 ≤ i → holds r i ≡ (there && eqb i (suc place))) ⌝ }
+{
+    if there { 1 << place } else { 0 }
+}
+
+// The set holds the junction at a place.
+pub fn has(set: u64, place: usize) -> bool
+    requires { ⌜ place < 64 ⌝ }
+    ensures { λ r. ⌜ r ≡ holds set (suc place) ⌝ }
+{
+    (set >> place) % 2 == 1
 }

@@ -14,9 +14,9 @@ use Rattle.columns.specs.Columns.{at, flagged, Ends, Neighbourhoods}
 use Rattle.potentials.specs.Repair.{Repairable, Repaired}
 use Rattle.potentials.proofs.Same.{repaired-same}
 use Rattle.order.specs.Ranked.{ranked}
-use Rattle.planner.specs.Low.{Low}
-use Rattle.planner.specs.Repairs.{Repair-start, Repair-end}
-use Rattle.planner.proofs.Starts.{flat-start, flat-slack, flat-repairable, ranked-start, ranked-slack, ranked-repairable}
+use Rattle.zerograph.specs.Low.{Low}
+use Rattle.repair.specs.Repairs.{Repair-start, Repair-end}
+use Rattle.repair.proofs.Starts.{flat-start, flat-slack, flat-repairable, ranked-start, ranked-slack, ranked-repairable}
 use Rattle.ledger.specs.Padded.{Padded, Priced}
 use Rattle.plan.specs.Ready.{Ready, Settled}
 

@@ -7,7 +7,7 @@ use Rattle.hall.specs.Hall.{Hall, row, count}
 use Rattle.dicuts.specs.Shores.{Ranged, Linked}
 use Rattle.potentials.specs.Repair.{Repaired}
 use Rattle.columns.specs.Columns.{at, flagged, Columns, Neighbourhoods}
-use Rattle.planner.specs.declared.repair.State.{State}
+use Rattle.repair.specs.declared.State.{State}
 
 -- the columns hold an accepted hall
 pub record Ready (h : Hall) (n m : ℕ) (tails heads prices : List ℕ) : Type 0 where

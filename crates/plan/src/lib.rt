@@ -1,5 +1,5 @@
 // Planning over the columns of a hall: a choice of least total with its potential, then the first of all choices.
-use planner::repair::State;
+use repair::State;
 ghost use Rattle.hall.specs.Hall.{Hall};
 ghost use Rattle.hall.specs.Plan.{First};
 ghost use Rattle.choicelists.specs.Listed.{listed};
@@ -21,7 +21,7 @@ pub fn cheapest<'a>(
     let chosen = pruning::start(n, m, tails, heads, prices);
     let around = tight::neighbourhoods(n, m, tails, heads, &chosen);
     let level = [0u64; 64];
-    planner::repair::repair(n, m, tails, heads, &costs, chosen, level, around)
+    repair::repair(n, m, tails, heads, &costs, chosen, level, around)
 }
 
 // From a choice of least total with its neighbourhoods to the first choice: fewest rows, then dictionary order.
@@ -42,7 +42,7 @@ pub fn first_choice<'a>(
 {
     let costs = ledger::costs::ranked_costs(m, prices);
     let levels = ledger::costs::scaled(&potential);
-    let state = planner::repair::repair(n, m, tails, heads, &costs, chosen, levels, around);
+    let state = repair::repair(n, m, tails, heads, &costs, chosen, levels, around);
     first::decide_all(
         n,
         m,

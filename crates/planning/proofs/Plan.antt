@@ -30,7 +30,7 @@ use Rattle.refusals.specs.Kinds.{refusal-of}
 use Rattle.hallfile.specs.Record.{record-of}
 use Rattle.hallfile.proofs.Records.{record-prices}
 use Rattle.ledger.proofs.Choices.{flagged-total}
-use Rattle.planner.specs.declared.repair.State.{State}
+use Rattle.repair.specs.declared.State.{State}
 use Rattle.plan.specs.Ready.{Ready, Cheapest}
 use Rattle.planning.specs.declared.Planned.{Planned}
 use Rattle.planning.specs.Plan.{unplanned, plan-refusal, in-front, Filled, Turned, Plan-as, Plan-says}

@@ -12,7 +12,7 @@ use Rattle.digraph.specs.Adjacency.{out-of}
 use Rattle.digraph.specs.Layers.{distance-of}
 use Rattle.digraph.specs.Reach.{Reach}
 use Rattle.digraph.proofs.Paths.{reached-near}
-use Rattle.planner.proofs.Rows.{ends-wide}
+use Rattle.columns.proofs.Ranged.{ends-wide}
 use Rattle.first.proofs.Steps.{raised-rise, raised-out, flipped-in}
 use Rattle.first.proofs.change.Statement.{statement}
 use Rattle.first.proofs.change.Tie as tie

@@ -12,7 +12,7 @@ use Rattle.dicuts.specs.Shores.{Ranged}
 use Rattle.potentials.specs.Repair.{Repaired}
 use Rattle.order.specs.Ranked.{ranked}
 use Rattle.columns.specs.Columns.{at, flagged, Columns, Neighbourhoods}
-use Rattle.planner.proofs.Rows.{ends-wide}
+use Rattle.columns.proofs.Ranged.{ends-wide}
 use Rattle.first.specs.Standing.{Movable, Standing}
 use Rattle.first.proofs.Steps.{gap-none, stays}
 use Rattle.first.proofs.Loop.{movable-start, movable-next, first-start, first-end}

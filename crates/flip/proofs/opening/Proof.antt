@@ -1,0 +1,122 @@
+-- Opening finds the first row: none before place k may be opened. Assumes nothing.
+use mathlib.Core.Path.{_≡_, sym, _∙_}
+use mathlib.Core.Bool.{false}
+use mathlib.Core.List.{[]}
+use Prim.Native.Nat.{ℕ, suc, _-_, _≤_, _<_}
+use native.Mathlib.Numerals.{add-one}
+use native.Mathlib.Omega.{arith}
+use borrow.Author.Count.{below-more}
+use borrow.Author.Needs.{needs}
+use Rattle.laws.proofs.First.{first-more, first-none}
+use Rattle.hall.specs.Hall.{Hall}
+use Rattle.columns.specs.Columns.{at, flagged, Columns}
+use Rattle.potentials.specs.ZeroGraph.{opens}
+use Rattle.zerograph.proofs.Rows.{opens-here}
+use Rattle.flip.proofs.opening.Statement.{statement}
+use Rattle.flip.proofs.opening.Tie as tie
+
+abbrev Inv-loop : tie.InvT-loop
+Inv-loop count tails heads costs movable potential x y k₀ k = (k ≤ count) × ((h : Hall) (n : ℕ) → Columns h n count tails heads → (i : ℕ) → i < k → opens h (flagged movable) (at costs) (at potential) x y (suc i) ≡ false)
+
+abbrev μ-loop : tie.MeasureT-loop
+μ-loop count tails heads costs movable potential x y k₀ k = count - k
+
+loop-holds : tie.Need-loop-holds Inv-loop μ-loop
+loop-holds c = (omega arith, λ h n cols i l. absurd (omega arith))
+
+element-copy-out-place : tie.Need-element-copy-out-place Inv-loop μ-loop
+element-copy-out-place c = search needs
+
+place-requires : tie.Need-place-requires Inv-loop μ-loop
+place-requires c κs = let s = c .before .before .before in let k = c .before .before .loop .k in let less = c .before .loop-test .taken in
+    (s .pre .0 .tail-low k less, s .pre .0 .tail-high k less)
+
+element-copy-out-place-2 : tie.Need-element-copy-out-place-2 Inv-loop μ-loop
+element-copy-out-place-2 c = search needs
+
+place-requires-2 : tie.Need-place-requires-2 Inv-loop μ-loop
+place-requires-2 c κs = let t = c .before .before .before in let s = t .before .before in let k = t .before .loop .k in let less = t .loop-test .taken in
+    (s .pre .0 .head-low k less, s .pre .0 .head-high k less)
+
+element-copy-out-may : tie.Need-element-copy-out-may Inv-loop μ-loop
+element-copy-out-may c = search needs
+
+mul-may : tie.Need-mul-may Inv-loop μ-loop
+mul-may c = search needs
+
+element-copy-out-may-2 : tie.Need-element-copy-out-may-2 Inv-loop μ-loop
+element-copy-out-may-2 c = search needs
+
+mul-may-2 : tie.Need-mul-may-2 Inv-loop μ-loop
+mul-may-2 c = search needs
+
+element-copy-out-may-3 : tie.Need-element-copy-out-may-3 Inv-loop μ-loop
+element-copy-out-may-3 c = search needs
+
+mul-may-3 : tie.Need-mul-may-3 Inv-loop μ-loop
+mul-may-3 c = search needs
+
+element-copy-out-may-4 : tie.Need-element-copy-out-may-4 Inv-loop μ-loop
+element-copy-out-may-4 c = search needs
+
+add-may : tie.Need-add-may Inv-loop μ-loop
+add-may c = let t = c .before .before .before .before .before .before in let s = t .before .before .before .before in
+    record { fits = omega (arith, s .pre .1 (t .before .before .before .loop .k), s .pre .2 (t .place .result)) }
+
+sub-if1 : tie.Need-sub-if1 Inv-loop μ-loop
+sub-if1 c = search needs
+
+add-if1 : tie.Need-add-if1 Inv-loop μ-loop
+add-if1 c = search needs
+
+returns : tie.Need-returns Inv-loop μ-loop
+returns c = let two = c .before .before .before .before .before in let one = two .before .before in let test = one .before .before in let l = test .before in let s = l .before in let a = s .args in
+    let k = l .loop .k in λ h n cols.
+    sym (first-more (a .count) (λ i. opens h (flagged (a .movable .now)) (at (a .costs .now)) (at (a .potential .now)) (a .x) (a .y) (suc i)) k (test .loop-test .taken) (l .loop .inv .1 h n cols)
+    (sym (opens-here h n (a .count) (a .tails .now) (a .heads .now) (a .costs .now) (a .movable .now) [] (a .potential .now) cols k (one .place .result) (two .place2 .result) (test .loop-test .taken) (one .place .ensures .0) (two .place2 .ensures .0) (a .x) (a .y) (s .pre .3)) ∙ (rw (add-one (one .place .result)) at (c .if1 .taken))))
+
+add-k : tie.Need-add-k Inv-loop μ-loop
+add-k c = search needs
+
+loop-less : tie.Need-loop-less Inv-loop μ-loop
+loop-less c = search needs
+
+loop-again : tie.Need-loop-again Inv-loop μ-loop
+loop-again c = let two = c .before .before .before .before .before in let one = two .before .before in let test = one .before .before in let l = test .before in let s = l .before in let a = s .args in
+    let k = l .loop .k in (
+      omega arith,
+      λ h n cols.
+          below-more (λ (i : ℕ). opens h (flagged (a .movable .now)) (at (a .costs .now)) (at (a .potential .now)) (a .x) (a .y) (suc i) ≡ false) k (l .loop .inv .1 h n cols)
+          (sym (opens-here h n (a .count) (a .tails .now) (a .heads .now) (a .costs .now) (a .movable .now) [] (a .potential .now) cols k (one .place .result) (two .place2 .result) (test .loop-test .taken) (one .place .ensures .0) (two .place2 .ensures .0) (a .x) (a .y) (s .pre .3)) ∙ (rw (add-one (one .place .result)) at (c .if1 .left))),
+    )
+
+returns-2 : tie.Need-returns-2 Inv-loop μ-loop
+returns-2 c = let l = c .before in let a = l .before .args in λ h n cols.
+    sym (first-none (a .count) (λ i. opens h (flagged (a .movable .now)) (at (a .costs .now)) (at (a .potential .now)) (a .x) (a .y) (suc i)) (λ i less. l .loop .inv .1 h n cols i (omega arith)))
+
+pub opening-spec : {M : Type 1} → statement M
+opening-spec =
+    tie.close
+    (tie.spec
+    Inv-loop
+    μ-loop
+    loop-holds
+    element-copy-out-place
+    place-requires
+    element-copy-out-place-2
+    place-requires-2
+    element-copy-out-may
+    mul-may
+    element-copy-out-may-2
+    mul-may-2
+    element-copy-out-may-3
+    mul-may-3
+    element-copy-out-may-4
+    add-may
+    sub-if1
+    add-if1
+    returns
+    add-k
+    loop-less
+    loop-again
+    returns-2)
