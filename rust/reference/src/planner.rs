@@ -18,7 +18,7 @@ pub struct Counts {
 
 pub struct Plan {
     pub rows: Vec<usize>,
-    pub cuts: Vec<(u64, u32)>,
+    pub cuts: Vec<(u64, u64)>,
     pub levels: Vec<i32>,
     pub counts: Counts,
 }
@@ -41,15 +41,7 @@ enum Search {
 }
 
 pub fn plan(hall: &Hall) -> Plan {
-    let mut planner = Planner {
-        choice: Choice::thinned(hall),
-        potential: [0; 64],
-        cost: hall.rows.iter().map(|row| row.price as i64).collect(),
-        decided: 0,
-        neighbourhoods: Neighbourhoods::unknown(),
-        counts: Counts::default(),
-    };
-    planner.repair();
+    let mut planner = Planner::cheapest(hall, hall.rows.iter().map(|row| row.price.into()).collect());
     let cuts = cuts::cuts(&mut planner);
     let levels = (0..hall.n).map(|j| (planner.potential[j] - planner.potential[0]) as i32).collect();
     planner.count_rows_too();
@@ -58,7 +50,26 @@ pub fn plan(hall: &Hall) -> Plan {
     Plan { rows: planner.choice.rows().collect(), cuts, levels, counts: planner.counts }
 }
 
+/// The cuts beside a choice of least cost, for other costs than the prices.
+pub fn cuts_at(hall: &Hall, cost: Vec<i64>) -> Vec<(u64, u64)> {
+    cuts::cuts(&mut Planner::cheapest(hall, cost))
+}
+
 impl<'h> Planner<'h> {
+    /// With a choice of least cost.
+    fn cheapest(hall: &'h Hall, cost: Vec<i64>) -> Planner<'h> {
+        let mut planner = Planner {
+            choice: Choice::thinned(hall, &cost),
+            potential: [0; 64],
+            cost,
+            decided: 0,
+            neighbourhoods: Neighbourhoods::unknown(),
+            counts: Counts::default(),
+        };
+        planner.repair();
+        planner
+    }
+
     pub fn hall(&self) -> &'h Hall {
         self.choice.hall
     }
