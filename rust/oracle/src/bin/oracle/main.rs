@@ -7,6 +7,7 @@
 //!     oracle cuts FILE                   CUTS and how many stand beside that choice in a right list; or REFUSED
 //!     oracle list FILE                   a right printed list
 //!     oracle judge FILE LIST             RIGHT, or what is wrong with a printed list
+//!     oracle judge FOLDER LISTS          the same of many, each after the name of its hall's file and a colon
 //!     oracle lines PROGRAM               what trychoices or tryedges has to print
 //!
 //! ROWS is a list of row numbers with commas, or - for none. Without words, each line of standard input is a request.
@@ -15,6 +16,7 @@ mod choices;
 mod edges;
 mod plans;
 
+use std::path::Path;
 use std::process::ExitCode;
 
 use oracle::{hall_in, holds, words, Told};
@@ -23,7 +25,6 @@ const USAGE: &str = "usage: oracle read|check|tight|plan|cuts|list|judge|lines .
 
 /// The answer, or what is wrong.
 fn answer(request: &[&str]) -> Result<String, String> {
-    let file = |name| std::fs::read(name).map_err(|error| format!("{name}: {error}"));
     Ok(match *request {
         ["read", name] => match hall_in(&file(name)?) {
             Ok(hall) => format!("HALL {} {}\n", hall.n, hall.rows.len()),
@@ -36,15 +37,38 @@ fn answer(request: &[&str]) -> Result<String, String> {
         ["list", name] => plans::list(&file(name)?),
         ["judge", name, list] => {
             let text = String::from_utf8_lossy(&file(list)?).into_owned();
-            match plans::judge(&file(name)?, &text) {
-                faults if faults.is_empty() => "RIGHT\n".to_string(),
-                faults => return Err(faults.join("\n")),
-            }
+            let lists = if Path::new(name).is_dir() { named(name, &text) } else { vec![(name.to_string(), text)] };
+            lists.iter().try_for_each(|(name, text)| judge(name, text))?;
+            "RIGHT\n".to_string()
         }
         ["lines", "trychoices"] => choices::lines(),
         ["lines", "tryedges"] => edges::lines(),
         _ => return Err(USAGE.to_string()),
     })
+}
+
+fn file(name: &str) -> Result<Vec<u8>, String> {
+    std::fs::read(name).map_err(|error| format!("{name}: {error}"))
+}
+
+fn judge(name: &str, text: &str) -> Result<(), String> {
+    match plans::judge(&file(name)?, text).first() {
+        Some(fault) => Err(format!("{name}: {fault}")),
+        None => Ok(()),
+    }
+}
+
+/// The files of a folder that a text names, and the list after each name.
+fn named(folder: &str, text: &str) -> Vec<(String, String)> {
+    let mut lists: Vec<(String, String)> = Vec::new();
+    for line in text.split_inclusive('\n') {
+        match (line.split_once(':'), lists.last_mut()) {
+            (Some((name, rest)), _) => lists.push((format!("{folder}/{name}"), rest.trim_start().to_string())),
+            (None, Some((_, list))) => *list += line,
+            (None, None) => lists.push((format!("{folder}/"), line.to_string())),
+        }
+    }
+    lists
 }
 
 fn number(word: &str) -> Result<u32, String> {
