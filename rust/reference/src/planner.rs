@@ -41,7 +41,8 @@ enum Search {
 }
 
 pub fn plan(hall: &Hall) -> Plan {
-    let mut planner = Planner::cheapest(hall, hall.rows.iter().map(|row| row.price.into()).collect());
+    let mut planner = Planner::new(hall, hall.rows.iter().map(|row| row.price.into()).collect());
+    planner.repair();
     let cuts = cuts::cuts(&mut planner);
     let levels = (0..hall.n).map(|j| (planner.potential[j] - planner.potential[0]) as i32).collect();
     planner.count_rows_too();
@@ -52,22 +53,21 @@ pub fn plan(hall: &Hall) -> Plan {
 
 /// The cuts beside a choice of least cost, for other costs than the prices.
 pub fn cuts_at(hall: &Hall, cost: Vec<i64>) -> Vec<(u64, u64)> {
-    cuts::cuts(&mut Planner::cheapest(hall, cost))
+    let mut planner = Planner::new(hall, cost);
+    planner.repair();
+    cuts::cuts(&mut planner)
 }
 
 impl<'h> Planner<'h> {
-    /// With a choice of least cost.
-    fn cheapest(hall: &'h Hall, cost: Vec<i64>) -> Planner<'h> {
-        let mut planner = Planner {
+    fn new(hall: &'h Hall, cost: Vec<i64>) -> Planner<'h> {
+        Planner {
             choice: Choice::thinned(hall, &cost),
             potential: [0; 64],
             cost,
             decided: 0,
             neighbourhoods: Neighbourhoods::unknown(),
             counts: Counts::default(),
-        };
-        planner.repair();
-        planner
+        }
     }
 
     pub fn hall(&self) -> &'h Hall {
