@@ -12,7 +12,7 @@ pub struct Claim<'a> {
     pub total: u64,
 }
 
-/// All that is wrong with a claim; nothing shows that no joining choice has a smaller total.
+/// All that is wrong with a claim. Where it is nothing, no joining choice has a smaller total.
 pub fn faults(hall: &Hall, claim: &Claim) -> Vec<&'static str> {
     if !is_choice(hall, claim.rows) {
         return vec!["the rows are no choice"];

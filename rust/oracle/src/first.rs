@@ -1,9 +1,9 @@
-//! Whether a joining choice is the first of all, in halls of any size. A planner hands over cuts with weights for a row's
-//! costs; what they show is worked out here, so that nothing is believed of the planner.
+//! Whether a joining choice is the first of all, in halls of any size. A planner hands over cuts with weights for the costs
+//! that it is asked about; what they show is worked out here, so that nothing is believed of the planner.
 
 use crate::hall::{enters, is_cut, Hall};
 
-/// What is not shown of a joining choice; nothing is left to show of the first of all.
+/// What is not shown of a joining choice. Where it is nothing, the choice is the first of all.
 ///
 /// A row ranks 257 for each unit of its price and 1 for itself: with at most 256 rows that compares totals, then numbers
 /// of rows. A choice that ranks the same and comes before in dictionary order has, at the first row where they differ, a
@@ -36,8 +36,8 @@ pub fn unshown(hall: &Hall, choice: &[u32], planner: impl Fn(&[u64]) -> Vec<(u64
     faults
 }
 
-/// What any joining choice without the rows that have no cost costs at least: it meets each cut, and no row's load is over
-/// its cost. 0 where the cuts do not show it.
+/// What a joining choice costs at least, if it has none of the rows without a cost: it meets each cut, and no row's load is
+/// over its cost. 0 where that is not so.
 fn bound(hall: &Hall, costs: &[Option<u64>], cuts: &[(u64, u64)]) -> u128 {
     let sum_where = |test: &dyn Fn(u64) -> bool| -> u128 {
         cuts.iter().filter(|(shore, _)| test(*shore)).map(|(_, weight)| u128::from(*weight)).sum()
