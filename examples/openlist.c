@@ -80,6 +80,10 @@ int main(int count, char **words)
         return 1;
     }
     size_t size = fread(file, 1, sizeof file, in);
+    if (ferror(in)) {
+        perror(words[1]);
+        return 1;
+    }
     fclose(in);
     if (himalowen_plan(file, size, rows, HIMALOWEN_ROW_PLACES, shores, HIMALOWEN_CUT_PLACES, weights, HIMALOWEN_CUT_PLACES,
                        levels, HIMALOWEN_LEVEL_PLACES, reply)) {

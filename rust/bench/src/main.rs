@@ -5,7 +5,7 @@ mod calls;
 mod growth;
 mod table;
 
-use calls::{Case, CALLS};
+use calls::{Case, CALLS, RUNS};
 use compare::{planners, Lists};
 use halls::{full_hall, KINDS};
 use table::Table;
@@ -25,12 +25,10 @@ fn main() {
     println!("# Benchmarks\n");
     println!("Made anew by `tools/benchmarks`, on {threads} processors at a load of {} when it began.\n", load());
     println!(
-        "Each line is {HALLS} halls of n junctions and m = 4n rows; a hall's time is its best of {} runs, from the",
-        calls::RUNS
-    );
-    println!("file's bytes to the reply. `reference` is the same method in plain Rust, unproved (`rust/reference`); `library` is the");
-    println!(
-        "proved static library, called through `rust/himalowen`. Ratios are library over reference, hall by hall."
+        "Each line is {HALLS} halls of n junctions and m = 4n rows; a hall's time is its best of {RUNS} runs, from the file's bytes to the
+reply. `reference` takes the same steps in plain Rust, unproved (`rust/reference`); what it does otherwise stands in
+`docs/DECISIONS.md`, 19. `library` is the proved static library, called through `rust/himalowen`. Ratios are library over
+reference, hall by hall."
     );
     let mut lent = Lists::enough();
     for call in CALLS {

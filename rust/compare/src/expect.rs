@@ -71,13 +71,21 @@ pub fn small_plan(planner: &Planner, file: &[u8]) -> Outcome {
     let (reply, lent) = planned(planner, file)?;
     match oracle::hall_in(file) {
         Ok(hall) => {
-            let first_choice = match hall.rows.len() {
-                0..=16 => oracle::first_choice,
-                _ => oracle::first_choice_by_branching,
-            };
-            let (first, total) = first_choice(&hall);
+            let (first, total) = oracle::first_choice(&hall);
             same("choice", &lent.rows[..reply[2] as usize], &first)?;
             same("total", reply[5], total)
+        }
+        Err(_) => Ok(()),
+    }
+}
+
+/// The plan's certificate, and that the choice is the first of all, by cuts of the plain Rust at other costs.
+pub fn first_plan(planner: &Planner, file: &[u8]) -> Outcome {
+    let (reply, lent) = planned(planner, file)?;
+    match oracle::hall_in(file) {
+        Ok(hall) => {
+            let cuts_at = |costs: &[u64]| reference::cuts_at(file, costs).expect("the hall is accepted");
+            same("unshown", oracle::unshown(&hall, &lent.rows[..reply[2] as usize], cuts_at), vec![])
         }
         Err(_) => Ok(()),
     }
@@ -88,8 +96,8 @@ fn planned(planner: &Planner, file: &[u8]) -> Result<(Planned, Lists), String> {
     let untouched = lent.clone();
     let reply = (planner.plan)(file, &mut lent);
     match oracle::hall_in(file) {
-        Err((number, row)) => {
-            same("plan", reply, [number, row, 0, 0, 0, 0])?;
+        Err(refusal) => {
+            same("plan", reply, [refusal.number.into(), refusal.row.into(), 0, 0, 0, 0])?;
             same("lists of a refused plan", &lent, &untouched)?;
         }
         Ok(hall) => {

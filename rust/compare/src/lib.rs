@@ -2,7 +2,7 @@
 
 mod expect;
 
-pub use expect::{check_and_tight, plan, short_lists, small_plan};
+pub use expect::{check_and_tight, first_plan, plan, short_lists, small_plan};
 
 /// Number, row, outcome, set.
 pub type Told = [u64; 4];

@@ -1,7 +1,7 @@
 //! Tries each planner on halls and files from fixed seeds and compares every answer with the oracle's.
 //! `compare [TIMES]` tries so many times as many random halls.
 
-use compare::{check_and_tight, plan, planners, short_lists, small_plan, Planner};
+use compare::{check_and_tight, first_plan, plan, planners, short_lists, small_plan, Planner};
 use halls::{all_halls, damaged, full_hall, random_files, random_hall, sized_files, starred, KINDS};
 
 type Test = fn(&Planner, &[u8], u64) -> Result<(), String>;
@@ -19,6 +19,8 @@ fn suite(what: impl Into<String>, files: impl Iterator<Item = Vec<u8>> + 'static
 const PLAN: Test = |planner, file, _| plan(planner, file);
 
 const PLAN_OF_SMALL: Test = |planner, file, _| small_plan(planner, file);
+
+const FIRST_PLAN: Test = |planner, file, _| first_plan(planner, file);
 
 const ALL_OF_SMALL: Test = |planner, file, seed| {
     small_plan(planner, file)?;
@@ -54,13 +56,19 @@ fn suites(times: u64) -> Vec<Suite> {
         let files = (0..count * times).map(move |seed| random_hall(n, rows, seed));
         suites.push(suite(format!("random halls up to {n} junctions and {rows} rows"), files, ALL_OF_SMALL));
     }
-    for (n, rows, count) in [(16, 48, 20_000), (64, 256, 2_000)] {
-        let files = (0..count * times).map(move |seed| random_hall(n, rows, seed));
-        suites.push(suite(format!("certificates of halls up to {n} junctions and {rows} rows"), files, PLAN));
+    for (n, rows, count, fewer) in [(16, 48, 20_000, 1_000), (64, 256, 2_000, 100)] {
+        let files = |count| (0..count * times).map(move |seed| random_hall(n, rows, seed));
+        suites.push(suite(format!("certificates of halls up to {n} junctions and {rows} rows"), files(count), PLAN));
+        suites.push(suite(format!("first choices, up to {n} junctions and {rows} rows"), files(fewer), FIRST_PLAN));
     }
     suites.push(suite("full halls of 8 junctions", full_halls(8, 12 * times), ALL_OF_SMALL));
     for n in [16, 32, 64] {
         suites.push(suite(format!("full halls of {n} junctions"), full_halls(n, 12 * times), ALL));
+        suites.push(suite(
+            format!("first choices, full halls of {n} junctions"),
+            full_halls(n, 36 * times),
+            FIRST_PLAN,
+        ));
     }
     suites
 }

@@ -1,6 +1,7 @@
 //! Certificates of a plan, for halls of any size: what must hold of a choice, its cuts and its levels.
 
-use crate::{entering, everything, holds, is_choice, is_cut, missed, Hall};
+use crate::hall::{entering, enters, everything, is_cut, Hall};
+use crate::{holds, is_choice, missed};
 
 /// A plan as it was given.
 pub struct Claim<'a> {
@@ -11,7 +12,7 @@ pub struct Claim<'a> {
     pub total: u64,
 }
 
-/// All that is wrong with a claim; nothing shows that no joining choice has a smaller total.
+/// All that is wrong with a claim. Where it is nothing, no joining choice has a smaller total.
 pub fn faults(hall: &Hall, claim: &Claim) -> Vec<&'static str> {
     if !is_choice(hall, claim.rows) {
         return vec!["the rows are no choice"];
@@ -24,7 +25,7 @@ pub fn faults(hall: &Hall, claim: &Claim) -> Vec<&'static str> {
     let level = |j: u64| load(&|shore| holds(shore, j)) as i64 - load(&|shore| holds(shore, 1)) as i64;
     let ordered_pairs = || claim.shores.iter().flat_map(|a| claim.shores.iter().map(move |b| (*a, *b)));
     let chosen = |i: usize| claim.rows.contains(&(i as u32 + 1));
-    let row_loads: Vec<u64> = hall.rows.iter().map(|row| load(&|shore| row.enters(shore))).collect();
+    let row_loads: Vec<u64> = hall.rows.iter().map(|row| load(&|shore| enters(row, shore))).collect();
     let tests = [
         (missed(hall, claim.rows).is_none(), "the rows do not join"),
         (claim.total == total, "the total is not the rows' total"),

@@ -1,48 +1,29 @@
-//! The definitions of halls, joining choices, plans and cuts, tried out one by one. It shares no code with any planner:
-//! small halls are decided by trying every set of junctions and every choice, large ones by certificates.
-//! Junctions and rows count from 1; junction j counts 2^(j - 1) in a set.
+//! The definitions of halls, joining choices, plans and cuts, tried out one by one. It shares no code with the proved
+//! library, and believes no planner: small halls are decided by trying every set of junctions and every choice, large
+//! ones by certificates. Junctions and rows count from 1; junction j counts 2^(j - 1) in a set.
 
 mod certificate;
-mod file;
+mod first;
+mod hall;
+mod list;
 mod small;
 
 pub use certificate::{faults, Claim};
-pub use file::{hall_in, Hall, Row};
-pub use small::{first_choice, first_choice_by_branching, neighbourhood_by_shores};
+pub use first::unshown;
+pub use hall::{hall_in, Hall};
+pub use list::{judge, printed, words, Listed};
+pub use reader::{Refusal, Row};
+pub use small::{first_choice, neighbourhood_by_shores};
 
 use std::collections::BTreeMap;
 
-/// Number and row of a refusal.
-pub type Refused = (u64, u64);
+use hall::everything;
 
 /// The reply to a check or to a tight neighbourhood: number, row, outcome (1 joins, 2 misses, 3 a neighbourhood), set.
 pub type Told = [u64; 4];
 
 pub fn holds(set: u64, junction: u64) -> bool {
     set & 1 << (junction - 1) != 0
-}
-
-pub fn everything(hall: &Hall) -> u64 {
-    (1..=hall.n).map(|j| 1 << (j - 1)).sum()
-}
-
-impl Row {
-    pub fn enters(&self, shore: u64) -> bool {
-        !holds(shore, self.from) && holds(shore, self.to)
-    }
-
-    pub fn leaves(&self, shore: u64) -> bool {
-        holds(shore, self.from) && !holds(shore, self.to)
-    }
-}
-
-pub fn is_cut(hall: &Hall, shore: u64) -> bool {
-    shore != 0 && shore < everything(hall) && !hall.rows.iter().any(|row| row.leaves(shore))
-}
-
-/// How many of the listed rows enter the shore.
-pub fn entering(hall: &Hall, shore: u64, choice: &[u32]) -> usize {
-    choice.iter().filter(|&&i| hall.rows[i as usize - 1].enters(shore)).count()
 }
 
 /// Arcs (from, to) over rows forward and chosen rows backward.
@@ -85,7 +66,7 @@ fn is_choice(hall: &Hall, choice: &[u32]) -> bool {
 }
 
 fn hall_and_choice(bytes: &[u8], choice: &[u32]) -> Result<Hall, Told> {
-    let hall = hall_in(bytes).map_err(|(number, row)| [number, row, 0, 0])?;
+    let hall = hall_in(bytes).map_err(|refusal| [refusal.number.into(), refusal.row.into(), 0, 0])?;
     if is_choice(&hall, choice) {
         Ok(hall)
     } else {

@@ -1,6 +1,7 @@
 //! Small halls: every shore, every choice.
 
-use crate::{entering, everything, holds, is_cut, Hall};
+use crate::hall::{entering, enters, everything, is_cut, Hall};
+use crate::holds;
 
 /// All shores of directed cuts.
 fn shores(hall: &Hall) -> Vec<u64> {
@@ -17,7 +18,7 @@ pub fn neighbourhood_by_shores(hall: &Hall, choice: &[u32], v: u64) -> u64 {
 
 /// The rows of each directed cut, row i as 2^(i - 1).
 fn cuts(hall: &Hall) -> Vec<u64> {
-    let rows_into = |shore| (0..hall.rows.len()).filter(|&i| hall.rows[i].enters(shore)).map(|i| 1 << i).sum();
+    let rows_into = |shore| (0..hall.rows.len()).filter(|&i| enters(&hall.rows[i], shore)).map(|i| 1 << i).sum();
     shores(hall).into_iter().map(rows_into).collect()
 }
 
@@ -29,23 +30,25 @@ fn rank(hall: &Hall, choice: u64) -> Rank {
     (numbers.iter().map(|&i| hall.rows[i as usize - 1].price).sum(), numbers.len(), numbers)
 }
 
-/// The first joining choice and its total: every set of rows is tried.
+/// The first joining choice and its total, in halls of up to 64 rows: every set of rows is tried, or, of more than 16 rows,
+/// every choice that meets unmet cuts one after the other and is not yet later in rank than one already found. The first
+/// choice is among those, since it can spare no row.
 pub fn first_choice(hall: &Hall) -> (Vec<u32>, u64) {
     let cuts = cuts(hall);
-    let joining = (0u64..1 << hall.rows.len()).filter(|choice| cuts.iter().all(|cut| cut & choice != 0));
-    let (total, _, numbers) =
-        joining.map(|choice| rank(hall, choice)).min().expect("all rows join a hall in one piece");
+    let (total, _, numbers) = if hall.rows.len() <= 16 { by_trying_all(hall, &cuts) } else { by_branching(hall, cuts) };
     (numbers, total)
 }
 
-/// The same for up to 64 rows: every choice is tried that meets unmet cuts one after the other and is not yet later in
-/// rank than one already found. The first choice is among them, since it can spare no row.
-pub fn first_choice_by_branching(hall: &Hall) -> (Vec<u32>, u64) {
-    let mut cuts = cuts(hall);
+fn by_trying_all(hall: &Hall, cuts: &[u64]) -> Rank {
+    let joining = (0u64..1 << hall.rows.len()).filter(|choice| cuts.iter().all(|cut| cut & choice != 0));
+    joining.map(|choice| rank(hall, choice)).min().expect("all rows join a hall in one piece")
+}
+
+fn by_branching(hall: &Hall, mut cuts: Vec<u64>) -> Rank {
     cuts.sort_by_key(|cut| cut.count_ones());
     let mut first = rank(hall, (0..hall.rows.len()).map(|i| 1 << i).sum());
     branch(hall, &cuts, 0, 0, &mut first);
-    (first.2, first.0)
+    first
 }
 
 fn branch(hall: &Hall, cuts: &[u64], chosen: u64, barred: u64, first: &mut Rank) {

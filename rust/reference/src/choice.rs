@@ -1,6 +1,8 @@
 //! A choice of rows and the arcs it gives: rows forward and chosen rows backward.
 
-use crate::hall::{Hall, Refusal};
+use reader::Refusal;
+
+use crate::hall::Hall;
 use crate::sets::{holds, reached_short_of, Arcs};
 
 pub struct Choice<'h> {
@@ -33,11 +35,11 @@ impl<'h> Choice<'h> {
     }
 
     /// All rows, then without each in turn, dearest first, that the rest can spare.
-    pub fn thinned(hall: &'h Hall) -> Choice<'h> {
+    pub fn thinned(hall: &'h Hall, cost: &[i64]) -> Choice<'h> {
         let mut choice = Choice::none(hall);
         (0..hall.rows.len()).for_each(|i| choice.open(i));
         let mut dearest_first: Vec<usize> = (0..hall.rows.len()).rev().collect();
-        dearest_first.sort_by_key(|&i| std::cmp::Reverse(hall.rows[i].price));
+        dearest_first.sort_by_key(|&i| std::cmp::Reverse(cost[i]));
         for i in dearest_first {
             choice.close(i);
             let row = hall.rows[i];

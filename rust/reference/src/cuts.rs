@@ -8,7 +8,7 @@ use crate::planner::Planner;
 use crate::sets::{holds, members, reached};
 
 /// The cuts, ascending by shore.
-pub fn cuts(planner: &mut Planner) -> Vec<(u64, u32)> {
+pub fn cuts(planner: &mut Planner) -> Vec<(u64, u64)> {
     let hall = planner.hall();
     let mut steps = planner.potential[..hall.n].to_vec();
     steps.sort_unstable();
@@ -17,7 +17,7 @@ pub fn cuts(planner: &mut Planner) -> Vec<(u64, u32)> {
     for step in steps.windows(2) {
         for class in classes(planner, step[1]) {
             for part in components(hall, hall.all() & !class) {
-                *weights.entry(hall.all() & !part).or_insert(0) += (step[1] - step[0]) as u32;
+                *weights.entry(hall.all() & !part).or_insert(0) += (step[1] - step[0]) as u64;
             }
         }
     }

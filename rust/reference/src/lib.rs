@@ -8,8 +8,8 @@ mod planner;
 mod sets;
 mod tight;
 
-pub use hall::Refusal;
 pub use planner::Counts;
+pub use reader::Refusal;
 
 use choice::Choice;
 
@@ -79,7 +79,7 @@ pub fn plan_into(
     }
     for (k, &(shore, weight)) in plan.cuts.iter().enumerate() {
         shores[k] = shore;
-        weights[k] = weight;
+        weights[k] = weight as u32;
     }
     levels[..hall.n].copy_from_slice(&plan.levels);
     Ok(Planned {
@@ -89,4 +89,10 @@ pub fn plan_into(
         total: plan.rows.iter().map(|&i| hall.rows[i].price).sum(),
         counts: plan.counts,
     })
+}
+
+/// Shores and weights of the cuts beside a choice of least cost, where each row has another cost than its price.
+pub fn cuts_at(file: &[u8], costs: &[u64]) -> Result<Vec<(u64, u64)>, Refusal> {
+    let hall = hall::read(file)?;
+    Ok(planner::cuts_at(&hall, costs.iter().map(|&cost| cost as i64).collect()))
 }

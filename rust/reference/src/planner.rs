@@ -18,7 +18,7 @@ pub struct Counts {
 
 pub struct Plan {
     pub rows: Vec<usize>,
-    pub cuts: Vec<(u64, u32)>,
+    pub cuts: Vec<(u64, u64)>,
     pub levels: Vec<i32>,
     pub counts: Counts,
 }
@@ -41,14 +41,7 @@ enum Search {
 }
 
 pub fn plan(hall: &Hall) -> Plan {
-    let mut planner = Planner {
-        choice: Choice::thinned(hall),
-        potential: [0; 64],
-        cost: hall.rows.iter().map(|row| row.price as i64).collect(),
-        decided: 0,
-        neighbourhoods: Neighbourhoods::unknown(),
-        counts: Counts::default(),
-    };
+    let mut planner = Planner::new(hall, hall.rows.iter().map(|row| row.price.into()).collect());
     planner.repair();
     let cuts = cuts::cuts(&mut planner);
     let levels = (0..hall.n).map(|j| (planner.potential[j] - planner.potential[0]) as i32).collect();
@@ -58,7 +51,25 @@ pub fn plan(hall: &Hall) -> Plan {
     Plan { rows: planner.choice.rows().collect(), cuts, levels, counts: planner.counts }
 }
 
+/// The cuts beside a choice of least cost, for other costs than the prices.
+pub fn cuts_at(hall: &Hall, cost: Vec<i64>) -> Vec<(u64, u64)> {
+    let mut planner = Planner::new(hall, cost);
+    planner.repair();
+    cuts::cuts(&mut planner)
+}
+
 impl<'h> Planner<'h> {
+    fn new(hall: &'h Hall, cost: Vec<i64>) -> Planner<'h> {
+        Planner {
+            choice: Choice::thinned(hall, &cost),
+            potential: [0; 64],
+            cost,
+            decided: 0,
+            neighbourhoods: Neighbourhoods::unknown(),
+            counts: Counts::default(),
+        }
+    }
+
     pub fn hall(&self) -> &'h Hall {
         self.choice.hall
     }

@@ -31,24 +31,18 @@ pub struct Columns {
 }
 
 impl Columns {
-    /// Of a hall file of one block, which the library accepts.
+    /// Of a hall file whose ends and sizes are within their limits, as the library asks.
     pub fn of(file: &[u8], choice: &[u32]) -> Columns {
-        let rows = file[12..].chunks_exact(8);
-        let mut columns =
-            Columns { n: file[0].into(), m: rows.len(), tails: [0; 256], heads: [0; 256], flags: [false; 256] };
-        for (i, row) in rows.enumerate() {
-            columns.tails[i] = row[0];
-            columns.heads[i] = row[2];
-        }
+        let mut columns = Columns { n: 0, m: 0, tails: [0; 256], heads: [0; 256], flags: [false; 256] };
+        let put = |row: reader::Row| {
+            columns.tails[columns.m] = row.from as u8;
+            columns.heads[columns.m] = row.to as u8;
+            columns.m += 1;
+        };
+        columns.n = reader::read(file, put).expect("full halls are accepted") as usize;
         for &row in choice {
             columns.flags[row as usize - 1] = true;
         }
-        let ends = columns.tails[..columns.m].iter().chain(&columns.heads[..columns.m]);
-        assert!(
-            columns.n <= 64
-                && columns.m <= 256
-                && ends.into_iter().all(|&end| 1 <= end && usize::from(end) <= columns.n)
-        );
         columns
     }
 }
