@@ -1,4 +1,4 @@
--- `hallfile::Kind::is_none` meets its contract: of all kinds, None alone has the number 0. Assumes nothing.
+-- `hallfile::Kind::is_none` tells whether a refusal's number is 0: of all kinds, None alone has that number. Assumes nothing.
 use mathlib.Core.Path.{_≡_, refl, sym, ap}
 use mathlib.Core.Bool.{false}
 use mathlib.Core.List.{[], _∷_}
