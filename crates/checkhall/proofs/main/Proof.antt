@@ -1,4 +1,4 @@
--- `checkhall::main` meets its contract. Assumes nothing.
+-- `checkhall::main` ends: the arguments are taken two by two, up to number 4096. The invariant: i is from 1 to 4098. The measure is count + 1 - i. Assumes nothing.
 use Prim.Native.Nat.{_≤_, _-_, _+_}
 use borrow.Author.Needs.{needs}
 use Rattle.checkhall.proofs.main.Statement.{statement}

@@ -1,4 +1,4 @@
--- `checkhall::print_check` meets its contract. Assumes nothing.
+-- `checkhall::print_check` lends as many of the rows as it is told to: the list has them. Assumes nothing.
 use mathlib.Core.Path.{sym}
 use lib.Seq.{length-take-le}
 use borrow.Author.Needs.{needs}
@@ -9,7 +9,7 @@ array-share-prefix-rows : tie.Need-array-share-prefix-rows
 array-share-prefix-rows c = search needs
 
 slice-aggregate-check-choice : tie.Need-slice-aggregate-check-choice
-slice-aggregate-check-choice c = sym (length-take-le (c .before .before .args .count) (c .before .before .args .t2) (search needs))
+slice-aggregate-check-choice c = let a = c .before .before .args in sym (length-take-le (a .count) (a .t2) (search needs))
 
 check-choice-requires : tie.Need-check-choice-requires
 check-choice-requires c κs = search needs

@@ -1,7 +1,7 @@
--- `choice::flags` meets its contract: after k numbers the flags are those of the first k. Assumes nothing.
+-- `choice::flags` gives the flag of each row. The invariant: k is at most the list's length, and the flags are those of its first k numbers (Flagged). The measure is the length less k. Assumes nothing.
 use Prim.Native.Nat.{_≤_, _-_}
 use native.Mathlib.Omega.{arith}
-use lib.ListN.{length}
+use lib.ListN.{length, getD}
 use Rattle.choice.proofs.Ascent.{Flagged, flagged-none, flagged-more, flagged-all, ascends-at}
 use borrow.Author.Needs.{needs}
 use Rattle.choice.proofs.flags.Statement.{statement}
@@ -13,6 +13,14 @@ Inv-loop numbers chosen₀ k₀ chosen k = (k ≤ length numbers) × Flagged num
 abbrev μ-loop : tie.MeasureT-loop
 μ-loop numbers chosen₀ k₀ chosen k = length numbers - k
 
+-- the loop's head, from where a turn has its number
+abbrev at-loop : tie.After-shared-slice-known Inv-loop μ-loop → tie.At-loop Inv-loop μ-loop
+at-loop c = c .before .before
+
+-- the number at hand is one of 1 to 256
+in-range : (c : tie.After-shared-slice-known Inv-loop μ-loop) → let l = at-loop c in let number = getD (l .before .args .numbers .now) (l .loop .k) 0 in (1 ≤ number) × (number ≤ 256)
+in-range c = let l = at-loop c in ascends-at 1 256 (l .before .args .numbers .now) (l .loop .k) (l .before .pre) (c .before .loop-test .taken)
+
 loop-holds : tie.Need-loop-holds Inv-loop μ-loop
 loop-holds c = (omega arith, flagged-none (c .args .numbers .now))
 
@@ -23,13 +31,13 @@ shared-slice-read-i : tie.Need-shared-slice-read-i Inv-loop μ-loop
 shared-slice-read-i c = search needs
 
 cast-i : tie.Need-cast-i Inv-loop μ-loop
-cast-i c = let l = c .before .before in let r = ascends-at 1 256 (l .before .args .numbers .now) (l .loop .k) (l .before .pre) (c .before .loop-test .taken) in omega (arith, r .1)
+cast-i c = let r = in-range c in omega (arith, r .1)
 
 sub-chosen : tie.Need-sub-chosen Inv-loop μ-loop
-sub-chosen c = let l = c .before .before in let r = ascends-at 1 256 (l .before .args .numbers .now) (l .loop .k) (l .before .pre) (c .before .loop-test .taken) in r .0
+sub-chosen c = in-range c .0
 
 array-write-chosen : tie.Need-array-write-chosen Inv-loop μ-loop
-array-write-chosen c = let l = c .before .before in let r = ascends-at 1 256 (l .before .args .numbers .now) (l .loop .k) (l .before .pre) (c .before .loop-test .taken) in omega (arith, r .0, r .1)
+array-write-chosen c = let r = in-range c in omega (arith, r .0, r .1)
 
 add-k : tie.Need-add-k Inv-loop μ-loop
 add-k c = search needs
@@ -38,7 +46,7 @@ loop-less : tie.Need-loop-less Inv-loop μ-loop
 loop-less c = search needs
 
 loop-again : tie.Need-loop-again Inv-loop μ-loop
-loop-again c = let l = c .before .before in let r = ascends-at 1 256 (l .before .args .numbers .now) (l .loop .k) (l .before .pre) (c .before .loop-test .taken) in
+loop-again c = let l = at-loop c in let r = in-range c in
     (omega arith, flagged-more (l .before .args .numbers .now) (l .loop .k) _ (l .loop .chosen) (c .before .loop-test .taken) (omega (arith, r .0, r .1)) (omega (arith, r .0)) (l .loop .inv .1))
 
 returns : tie.Need-returns Inv-loop μ-loop

@@ -1,4 +1,5 @@
--- `choice::shortfall` meets its contract: the junctions left decide what all decide, and those before reach all. Assumes nothing.
+-- `choice::shortfall` gives what the lowest junction that does not reach all reaches. The invariant: j is at most n, the junctions after j decide what all decide, and those up to j reach all (Known).
+-- The measure is n - j. Assumes nothing.
 use mathlib.Core.List.{List}
 use mathlib.Core.Path.{_≡_, _∙_, sym, ap}
 use mathlib.Core.Logic.{⊎-elim}
@@ -26,11 +27,22 @@ Inv-loop adjacency n all j₀ j = (j ≤ n) × (short-from (n - j) (suc j) (full
 abbrev μ-loop : tie.MeasureT-loop
 μ-loop adjacency n all j₀ j = n - j
 
+-- the places of the code, each from the one after it: the turn in which the search was made, the loop's head, the start
+abbrev in-loop : tie.After-reach-until Inv-loop μ-loop → tie.In-loop Inv-loop μ-loop
+in-loop c = c .before
+
+abbrev at-loop : tie.In-loop Inv-loop μ-loop → tie.At-loop Inv-loop μ-loop
+at-loop c = c .before
+
+abbrev at-start : tie.At-loop Inv-loop μ-loop → tie.Start Inv-loop μ-loop
+at-start c = c .before .before
+
 full-requires : tie.Need-full-requires Inv-loop μ-loop
 full-requires c κs = search needs
 
 loop-holds : tie.Need-loop-holds Inv-loop μ-loop
-loop-holds c = let n = c .before .args .n in (omega arith, let e : n - 0 ≡ n = omega arith in ap (λ (k : ℕ). short-from k 1 (full n) (from-each n (c .before .args .adjacency .now))) e, λ i l m. absurd (omega arith))
+loop-holds c = let n = c .before .args .n in
+    (omega arith, let e : n - 0 ≡ n = omega arith in ap (λ (k : ℕ). short-from k 1 (full n) (from-each n (c .before .args .adjacency .now))) e, λ i l m. absurd (omega arith))
 
 shl-here : tie.Need-shl-here Inv-loop μ-loop
 shl-here c = search needs
@@ -42,8 +54,8 @@ reach-until-requires : tie.Need-reach-until-requires Inv-loop μ-loop
 reach-until-requires c κs = search needs
 
 returns : tie.Need-returns Inv-loop μ-loop
-returns c = let l = c .before .before .before .before in let s = l .before .before in let f = from-each (s .args .n) (s .args .adjacency .now) in let t = c .before .before .before .loop-test .taken in
-    let got = reach-is-closure (s .args .n) (out-of (s .args .adjacency .now)) (l .loop .j) (c .before .before .reach-until .result) (s .pre .0) (s .pre .1) t (c .before .before .reach-until .ensures .whole (c .before .if1 .taken)) in
+returns c = let g = c .before .before in let l = at-loop (in-loop g) in let s = at-start l in let f = from-each (s .args .n) (s .args .adjacency .now) in let t = in-loop g .loop-test .taken in
+    let got = reach-is-closure (s .args .n) (out-of (s .args .adjacency .now)) (l .loop .j) (g .reach-until .result) (s .pre .0) (s .pre .1) t (g .reach-until .ensures .whole (c .before .if1 .taken)) in
     got ∙ sym (short-stop (full (s .args .n)) f (s .args .n) (l .loop .j) t (λ e. eqb-false _ _ (not-true _ (c .if2 .taken)) (got ∙ e ∙ sym (l .before .full .ensures)))) ∙ l .loop .inv .1
 
 add-j : tie.Need-add-j Inv-loop μ-loop
@@ -53,9 +65,9 @@ loop-less : tie.Need-loop-less Inv-loop μ-loop
 loop-less c = search needs
 
 loop-again : tie.Need-loop-again Inv-loop μ-loop
-loop-again c = let l = c .before .before .before in let s = l .before .before in let n = s .args .n in let out = out-of (s .args .adjacency .now) in let j = l .loop .j in
-    let t = c .before .before .loop-test .taken in
-    let got = c .before .reach-until in
+loop-again c = let g = c .before in let l = at-loop (in-loop g) in let s = at-start l in let n = s .args .n in let out = out-of (s .args .adjacency .now) in let j = l .loop .j in
+    let t = in-loop g .loop-test .taken in
+    let got = g .reach-until in
     let all-reached : from-each n (s .args .adjacency .now) (suc j) ≡ full n =
     ⊎-elim
     (λ e. sym (reach-is-closure n out j (got .result) (s .pre .0) (s .pre .1) t (got .ensures .whole (e .0 .taken))) ∙ eqb-true _ _ (not-false _ (e .1 .left)) ∙ l .before .full .ensures)
@@ -64,7 +76,8 @@ loop-again c = let l = c .before .before .before in let s = l .before .before in
     (omega arith, sym (short-more (full n) (from-each n (s .args .adjacency .now)) n j t all-reached) ∙ l .loop .inv .1, known-more n out j (l .loop .inv .2) all-reached)
 
 returns-2 : tie.Need-returns-2 Inv-loop μ-loop
-returns-2 c = let l = c .before in let s = l .before .before in sym (short-end (full (s .args .n)) (from-each (s .args .n) (s .args .adjacency .now)) (s .args .n) (l .loop .j) (suc (l .loop .j)) (c .loop-test .left)) ∙ l .loop .inv .1
+returns-2 c = let l = c .before in let s = at-start l in
+    sym (short-end (full (s .args .n)) (from-each (s .args .n) (s .args .adjacency .now)) (s .args .n) (l .loop .j) (suc (l .loop .j)) (c .loop-test .left)) ∙ l .loop .inv .1
 
 pub shortfall-spec : {M : Type 1} → statement M
 shortfall-spec =

@@ -1,4 +1,4 @@
--- `console::numbers_in` meets its contract. Assumes nothing.
+-- `console::numbers_in` gives at most 257 numbers. The invariant: i is at most the text's length, and at most 257 numbers are done. The measure is the length less i. Assumes nothing.
 use Prim.Native.Nat.{_≤_, _-_}
 use lib.ListN.{length}
 use borrow.Author.Needs.{needs}

@@ -1,4 +1,4 @@
--- `console::print_set` meets its contract. Assumes nothing.
+-- `console::print_set` ends and asks for junctions 1 to 64 only. The invariant: j is from 1 to 65. The measure is 65 - j. Assumes nothing.
 use Prim.Native.Nat.{_≤_, _-_}
 use borrow.Author.Needs.{needs}
 use Rattle.console.proofs.print_set.Statement.{statement}

@@ -1,4 +1,4 @@
--- Before finds a junction one arc before y: the one that there is lies ahead. Assumes nothing.
+-- `digraph::before` finds a junction one arc before y and one less far. The invariant: x is a junction, and one that there is is x or a later one (Ahead). The measure is 65 - x. Assumes nothing.
 use mathlib.Core.Path.{sym, _∙_}
 use Prim.Native.Nat.{_≤_, _-_}
 use native.Mathlib.Omega.{arith}
@@ -16,26 +16,33 @@ Inv-loop adjacency distances y x₀ x = (1 ≤ x) × Ahead 64 (out-of adjacency)
 abbrev μ-loop : tie.MeasureT-loop
 μ-loop adjacency distances y x₀ x = 65 - x
 
+-- the loop's head, from where x was tried and is not before y
+abbrev at-loop : tie.Then1 Inv-loop μ-loop → tie.At-loop Inv-loop μ-loop
+at-loop c = c .before .before
+
+-- x is a junction
+in-hall : (l : tie.At-loop Inv-loop μ-loop) → l .loop .x ≤ 64
+in-hall l = let ahead = l .loop .inv .1 in omega (arith, ahead .later, ahead .there .to-last)
+
 loop-holds : tie.Need-loop-holds Inv-loop μ-loop
 loop-holds c = (omega arith, record { at = c .pre .2 .0; there = c .pre .2 .1; later = c .pre .2 .1 .from-one })
 
 is-before-requires : tie.Need-is-before-requires Inv-loop μ-loop
-is-before-requires c κs = let l = c .loop in
-    (c .before .pre .0, c .before .pre .1, l .inv .0, omega (arith, l .inv .1 .later, l .inv .1 .there .to-last))
+is-before-requires c κs = let at-start = c .before in (at-start .pre .0, at-start .pre .1, c .loop .inv .0, in-hall c)
 
 add-x : tie.Need-add-x Inv-loop μ-loop
-add-x c = let l = c .before .before .loop in record { fits = omega (arith, l .inv .1 .later, l .inv .1 .there .to-last) }
+add-x c = record { fits = omega (arith, in-hall (at-loop c)) }
 
 loop-less : tie.Need-loop-less Inv-loop μ-loop
-loop-less c = let l = c .before .before .loop in omega (arith, l .inv .1 .later, l .inv .1 .there .to-last)
+loop-less c = omega (arith, in-hall (at-loop c))
 
 loop-again : tie.Need-loop-again Inv-loop μ-loop
-loop-again c = let l = c .before .before .loop in let a = c .before .before .before .args in
+loop-again c = let l = at-loop c .loop in let a = at-loop c .before .args in
     (omega arith, ahead-next 64 (out-of (a .adjacency .now)) (distance-of (a .distances .now)) (a .y) (l .x) (sym (c .before .is-before .ensures) ∙ not-true (c .before .is-before .result) (c .if1 .taken)) (l .inv .1))
 
 returns : tie.Need-returns Inv-loop μ-loop
-returns c = let l = c .before .before .loop in let a = c .before .before .before .args in
-    test-before (out-of (a .adjacency .now)) (distance-of (a .distances .now)) (a .y) (l .x) 64 (l .inv .0) (omega (arith, l .inv .1 .later, l .inv .1 .there .to-last))
+returns c = let at-loop = c .before .before in let l = at-loop .loop in let a = at-loop .before .args in
+    test-before (out-of (a .adjacency .now)) (distance-of (a .distances .now)) (a .y) (l .x) 64 (l .inv .0) (in-hall at-loop)
     (sym (c .before .is-before .ensures) ∙ not-false (c .before .is-before .result) (c .if1 .left))
 
 pub before-spec : {M : Type 1} → statement M

@@ -1,10 +1,17 @@
--- The test for one arc before y compares the distances and looks for the arc. Assumes nothing.
+-- `digraph::is_before` is the test whether x is one arc before y and one less far: it compares the two distances, and where they fit it looks for the arc. Assumes nothing.
 use borrow.Author.Needs.{needs}
 use Rattle.digraph.specs.Adjacency.{out-of}
 use Rattle.digraph.specs.Layers.{distance-of}
 use Rattle.digraph.proofs.Backward.{before-close, before-far}
 use Rattle.digraph.proofs.is_before.Statement.{statement}
 use Rattle.digraph.proofs.is_before.Tie as tie
+
+-- where both distances are known
+abbrev at-far : tie.After-arcs → tie.After-distance2
+at-far c = c .before .before
+
+abbrev at-start : tie.After-distance2 → tie.Start
+at-start far = far .before .before
 
 distance-requires : tie.Need-distance-requires
 distance-requires c κs = search needs
@@ -31,15 +38,14 @@ shr-result : tie.Need-shr-result
 shr-result c = search needs
 
 returns : tie.Need-returns
-returns c = let s = c .before .before .before .before in let a = s .args in
+returns c = let far = at-far c in let near = far .before in let a = at-start far .args in
     before-close (out-of (a .adjacency .now)) (distance-of (a .distances .now)) (a .y) (a .x)
-    (c .before .before .before .distance .result) (c .before .before .distance2 .result) (c .arcs .result)
-    (c .before .before .before .distance .ensures) (c .before .before .distance2 .ensures) (c .before .if1 .taken) (c .arcs .ensures)
+    (near .distance .result) (far .distance2 .result) (c .arcs .result) (near .distance .ensures) (far .distance2 .ensures) (c .before .if1 .taken) (c .arcs .ensures)
 
 returns-2 : tie.Need-returns-2
-returns-2 c = let a = c .before .before .before .args in
+returns-2 c = let far = c .before in let near = far .before in let a = at-start far .args in
     before-far (out-of (a .adjacency .now)) (distance-of (a .distances .now)) (a .y) (a .x)
-    (c .before .before .distance .result) (c .before .distance2 .result) (c .before .before .distance .ensures) (c .before .distance2 .ensures) (c .if1 .left)
+    (near .distance .result) (far .distance2 .result) (near .distance .ensures) (far .distance2 .ensures) (c .if1 .left)
 
 pub is-before-spec : {M : Type 1} → statement M
 is-before-spec =

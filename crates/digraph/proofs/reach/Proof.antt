@@ -1,4 +1,5 @@
--- Reach gives the set reached: it keeps the search right and expands one junction a turn. Assumes nothing.
+-- `digraph::reach` gives the least closed set that contains the start. The invariant: the junctions to do are a word, all that is reached is needed, and what the reached set lacks is an arc away from the junctions to do (Searching).
+-- The measure is the number of junctions not yet expanded: a turn expands one, and what it finds is new. Assumes nothing.
 use Prim.Native.Nat.{_^_, _<_}
 use native.Mathlib.Omega.{arith}
 use lib.Count.{trailing-le}
@@ -17,6 +18,10 @@ Inv-loop adjacency start reached₀ todo₀ reached todo = (todo < 2 ^ 64) × Se
 abbrev μ-loop : tie.MeasureT-loop
 μ-loop adjacency start reached₀ todo₀ reached todo = unexpanded 64 reached todo
 
+-- the loop's head, from where a turn has the arcs of its junction
+abbrev at-loop : tie.After-arcs Inv-loop μ-loop → tie.At-loop Inv-loop μ-loop
+at-loop c = c .before .before
+
 loop-holds : tie.Need-loop-holds Inv-loop μ-loop
 loop-holds c = (omega arith, search-start 64 (out-of (c .args .adjacency .now)) (c .args .start))
 
@@ -33,11 +38,11 @@ sub-todo : tie.Need-sub-todo Inv-loop μ-loop
 sub-todo c = search needs
 
 loop-less : tie.Need-loop-less Inv-loop μ-loop
-loop-less c = let l = c .before .before .loop in let a = c .before .before .before .args in
+loop-less c = let l = at-loop c .loop in let a = at-loop c .before .args in
     expand-less (out-of (a .adjacency .now)) (a .start) (l .reached) (l .todo) (c .arcs .result) (omega arith) (l .inv .0) (c .arcs .ensures) (l .inv .1)
 
 loop-again : tie.Need-loop-again Inv-loop μ-loop
-loop-again c = let l = c .before .before .loop in let a = c .before .before .before .args in (
+loop-again c = let l = at-loop c .loop in let a = at-loop c .before .args in (
   expand-fits (l .reached) (l .todo) (c .arcs .result) (l .inv .0) (omega (arith, c .arcs .ok)),
   expand-step (out-of (a .adjacency .now)) (a .start) (l .reached) (l .todo) (c .arcs .result) (omega arith) (l .inv .0) (c .arcs .ensures) (l .inv .1),
 )

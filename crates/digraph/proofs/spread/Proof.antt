@@ -1,4 +1,5 @@
--- Spread finds what arcs from the set lead to. Assumes nothing.
+-- `digraph::spread` finds what arcs from the set lead to. The invariant: the rest is a word, and what is found, with what arcs from the rest lead to, is what arcs from the whole set lead to (Spreading).
+-- The measure is the rest as a number: it loses its lowest junction each turn. Assumes nothing.
 use Prim.Native.Nat.{_^_, _<_}
 use native.Mathlib.Omega.{arith}
 use lib.Count.{trailing-le}
@@ -17,6 +18,10 @@ Inv-loop adjacency from found₀ rest₀ found rest = (rest < 2 ^ 64) × Spreadi
 abbrev μ-loop : tie.MeasureT-loop
 μ-loop adjacency from found₀ rest₀ found rest = rest
 
+-- the loop's head, from where a turn has the arcs of its junction
+abbrev at-loop : tie.After-arcs Inv-loop μ-loop → tie.At-loop Inv-loop μ-loop
+at-loop c = c .before .before
+
 loop-holds : tie.Need-loop-holds Inv-loop μ-loop
 loop-holds c = (omega arith, spread-start (out-of (c .args .adjacency .now)) (c .args .from))
 
@@ -33,10 +38,10 @@ sub-rest : tie.Need-sub-rest Inv-loop μ-loop
 sub-rest c = search needs
 
 loop-less : tie.Need-loop-less Inv-loop μ-loop
-loop-less c = clear-less (c .before .before .loop .rest) (omega arith)
+loop-less c = clear-less (at-loop c .loop .rest) (omega arith)
 
 loop-again : tie.Need-loop-again Inv-loop μ-loop
-loop-again c = let l = c .before .before .loop in let a = c .before .before .before .args in (
+loop-again c = let l = at-loop c .loop in let a = at-loop c .before .args in (
   omega (arith, clear-less (l .rest) (omega arith)),
   spread-step (out-of (a .adjacency .now)) (a .from) (l .found) (l .rest) (c .arcs .result) (omega arith) (l .inv .0) (c .arcs .ensures) (l .inv .1),
 )

@@ -1,4 +1,4 @@
--- `exhaustive::choice_of` meets its contract. Assumes nothing.
+-- `exhaustive::choice_of` gives a choice of at most 10 rows. The invariant: i is at most the row count, that is at most 10, and the choice has at most i rows and a total of at most 256 for each. The measure is count - i. Assumes nothing.
 use Prim.Native.Nat.{_≤_, _-_, _*_}
 use borrow.Author.Needs.{needs}
 use Rattle.exhaustive.proofs.choice_of.Statement.{statement}

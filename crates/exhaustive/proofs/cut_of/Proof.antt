@@ -1,4 +1,4 @@
--- `exhaustive::cut_of` meets its contract. Assumes nothing.
+-- `exhaustive::cut_of` ends and reads no place outside its lists. The invariant: i is at most the row count, and that is at most 10. The measure is count - i. Assumes nothing.
 use Prim.Native.Nat.{_≤_, _-_}
 use borrow.Author.Needs.{needs}
 use Rattle.exhaustive.proofs.cut_of.Statement.{statement}

@@ -1,4 +1,4 @@
--- `exhaustive::cuts_of` meets its contract. Assumes nothing.
+-- `exhaustive::cuts_of` gives at most 64 cuts. The invariant: the set is at most 64 as a number, and there are no more cuts than that number. The measure is the number of sets left. Assumes nothing.
 use Prim.Native.Nat.{_≤_, _-_}
 use borrow.Author.Needs.{needs}
 use Rattle.exhaustive.proofs.cuts_of.Statement.{statement}

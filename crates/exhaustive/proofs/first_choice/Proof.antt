@@ -1,4 +1,4 @@
--- `exhaustive::first_choice` meets its contract. Assumes nothing.
+-- `exhaustive::first_choice` gives a choice of at most 10 rows. The invariant: the choices tried are no more than all, these are at most 1024, and the best so far has at most 10 rows. The measure is the number of choices left. Assumes nothing.
 use Prim.Native.Nat.{_≤_, _-_}
 use borrow.Author.Needs.{needs}
 use Rattle.exhaustive.proofs.first_choice.Statement.{statement}

@@ -1,4 +1,4 @@
--- `exhaustive::meets_all` meets its contract. Assumes nothing.
+-- `exhaustive::meets_all` ends and reads no place outside the list. The invariant: k is at most the number of cuts. The measure is count - k. Assumes nothing.
 use Prim.Native.Nat.{_≤_, _-_}
 use borrow.Author.Needs.{needs}
 use Rattle.exhaustive.proofs.meets_all.Statement.{statement}

@@ -1,4 +1,4 @@
--- `exhaustive::precedes` meets its contract. Assumes nothing.
+-- `exhaustive::precedes` ends and reads no place outside the lists. The invariant: k is at most 10. The measure is 10 - k. Assumes nothing.
 use Prim.Native.Nat.{_≤_, _-_}
 use borrow.Author.Needs.{needs}
 use Rattle.exhaustive.proofs.precedes.Statement.{statement}

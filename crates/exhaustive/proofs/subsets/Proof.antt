@@ -1,4 +1,4 @@
--- `exhaustive::subsets` meets its contract. Assumes nothing.
+-- `exhaustive::subsets` gives a number from 1 to 1024, at most 64 for up to 6 things: two to the power k, from which the shift loses nothing. Assumes nothing.
 use lib.Pow.{pow-mono, shl-exact}
 use mathlib.Core.Path.{_≡_}
 use Prim.Native.Nat.{_≤_, _*_, _%_, _^_}

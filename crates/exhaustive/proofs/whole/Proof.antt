@@ -1,4 +1,4 @@
--- `exhaustive::whole` meets its contract. Assumes nothing.
+-- `exhaustive::whole` gives a number below 64: the sets of up to 6 junctions are at most 64. Assumes nothing.
 use native.Mathlib.Omega.{arith}
 use borrow.Author.Needs.{needs}
 use Rattle.exhaustive.proofs.whole.Statement.{statement}

@@ -1,4 +1,4 @@
--- `hallfile::read_hall` meets its contract: 9 is asked where none of 2 to 8 is met. Assumes nothing.
+-- `hallfile::read_hall` replies with the first of the refusals 2 to 9, or with the hall: 9 is asked where none of 2 to 8 is met. Assumes nothing.
 use mathlib.Core.Bool.{true}
 use mathlib.Core.List.{List}
 use mathlib.Core.Path.{_≡_, refl, sym, ap, _∙_}
@@ -22,34 +22,31 @@ use Rattle.refusals.proofs.Numbers.{kind-none, is-refused, is-fine}
 use Rattle.hallfile.proofs.Reply.{reply-kind, reply-hall, reply-record}
 use Rattle.hallfile.proofs.read_hall.Statement.{statement}
 use Rattle.hallfile.proofs.read_hall.Tie as tie
-use Rattle.hallfile.proofs.read_hall.Reads as reads
-use Rattle.hallfile.proofs.read_hall.Lts as lts
-use Rattle.refusals.proofs.Kind.is_none.Reads as is-none-reads
-use Rattle.hallfile.proofs.Reading.refused.Reads as refused-reads
-use Rattle.hallfile.proofs.connected.is_connected.Reads as is-connected-reads
-use Rattle.hallfile.proofs.read_shape.Reads as read-shape-reads
 
-abbrev Passed : Type 0
-Passed =
-    lts.Else1
-    (read-shape-reads.Asked, read-shape-reads.Learnt, is-none-reads.Asked, is-none-reads.Learnt, is-connected-reads.Asked, is-connected-reads.Learnt, refused-reads.Asked, refused-reads.Learnt)
-    reads.Pre reads.Post
+-- where the shape was read
+abbrev at-shape : tie.After-is-none → tie.After-read-shape
+at-shape c = c .before
+
+abbrev file-of : tie.After-read-shape → List ℕ
+file-of c = c .before .before .args .file .now
 
 -- where none of 2 to 8 is met
-module _ (e : Passed) where
+module _ (e : tie.Else1) where
+  abbrev read : tie.After-read-shape
+  read = at-shape (e .before)
+
   abbrev file : List ℕ
-  file = e .before .before .before .before .args .file .now
+  file = file-of read
 
   abbrev hall-read : HallRecord
-  hall-read = e .before .before .read-shape .result .hall
+  hall-read = read .read-shape .result .hall
 
   fine : eqb (shape-refusal file .number) 0 ≡ true
   fine =
-      is-fine (e .before .before .read-shape .result .refusal) (shape-refusal file) (e .before .is-none .result) (e .before .before .read-shape .ensures .refusal)
-      (e .before .is-none .ensures) (e .if1 .left)
+      is-fine (read .read-shape .result .refusal) (shape-refusal file) (e .before .is-none .result) (read .read-shape .ensures .refusal) (e .before .is-none .ensures) (e .if1 .left)
 
   is-record : hall-read ≡ record-of (hall-in file)
-  is-record = reply-record (shape-refusal file) (hall-in file) (e .before .before .read-shape .result) (e .before .before .read-shape .ensures) fine
+  is-record = reply-record (shape-refusal file) (hall-in file) (read .read-shape .result) (read .read-shape .ensures) fine
 
   sound : Sound file
   sound = shape-sound file fine
@@ -64,7 +61,7 @@ is-none-requires : tie.Need-is-none-requires
 is-none-requires c κs = search needs
 
 returns : tie.Need-returns
-returns c = let reading = c .before .before .read-shape in let file = c .before .before .before .before .args .file .now in
+returns c = let reading = at-shape (c .before) .read-shape in let file = file-of (at-shape (c .before)) in
     let t = is-refused (reading .result .refusal) (shape-refusal file) (c .before .is-none .result) (reading .ensures .refusal) (c .before .is-none .ensures) (c .if1 .taken) in
     rw (shape-refused file t) (reading .ensures)
 
@@ -85,7 +82,7 @@ returns-2 c = let e = c .before .before .before in
 
 returns-3 : tie.Need-returns-3
 unfolding refusal
-returns-3 c = let e = c .before .before in let reading = e .before .before .read-shape in
+returns-3 c = let e = c .before .before in let reading = read e .read-shape in
     let none = sound-connected (file e) (sound e) (sym (c .before .is-connected .ensures (hall-in (file e)) (columns e)) ∙ not-false _ (c .if2 .left)) in
     reply-hall _ _ (reading .result) (kind-none (reading .result .refusal) (ap (λ (w : Refusal). eqb (w .number) 0) (reading .ensures .refusal) ∙ fine e) ∙ sym none) (rw none) (is-record e)
 

@@ -1,4 +1,4 @@
--- `tight::solid_arcs` meets its contract: after i rows the sets are those of the first i. Assumes nothing.
+-- `tight::solid_arcs` gives the solid arcs of the rows. The invariant: i is at most m, and the sets are those of the first i rows (Firming). The measure is m - i. Assumes nothing.
 use mathlib.Core.Path.{_≡_}
 use mathlib.Core.Logic.{⊎-elim}
 use Prim.Native.Nat.{_-_, _≤_}
@@ -9,8 +9,6 @@ use Rattle.tight.proofs.Firming.{firm-none, firm-ahead, firm-both, firm
 use borrow.Author.Needs.{needs}
 use Rattle.tight.proofs.solid_arcs.Statement.{statement}
 use Rattle.tight.proofs.solid_arcs.Tie as tie
-use Rattle.tight.proofs.solid_arcs.Reads as reads
-use Rattle.tight.proofs.solid_arcs.Lts as lts
 
 abbrev Inv-loop : tie.InvT-loop
 Inv-loop n m tails heads flags once₀ firm₀ i₀ once firm i = (i ≤ m) × Firming i tails heads flags once firm
@@ -18,13 +16,24 @@ Inv-loop n m tails heads flags once₀ firm₀ i₀ once firm i = (i ≤ m) × F
 abbrev μ-loop : tie.MeasureT-loop
 μ-loop n m tails heads flags once₀ firm₀ i₀ once firm i = m - i
 
+-- the turn, from where its row's head is known, where the row is flagged, and at its end
+abbrev at-head : tie.After-head Inv-loop μ-loop → tie.In-loop Inv-loop μ-loop
+at-head c = c .before .before
+
+abbrev at-flagged : tie.Then1 Inv-loop μ-loop → tie.In-loop Inv-loop μ-loop
+at-flagged c = at-head (c .before .before)
+
+abbrev at-end : tie.Joined1 Inv-loop μ-loop → tie.In-loop Inv-loop μ-loop
+at-end c = at-head (c .before .before)
+
 -- the ends of the row at hand
-ends-in : (c : lts.In-loop reads.Pre reads.Post Inv-loop μ-loop)
+ends-in : (c : tie.In-loop Inv-loop μ-loop)
     → let i = c .before .loop .i in let a = c .before .before .args in
     (1 ≤ getD (a .tails .now) i 0) × (getD (a .tails .now) i 0 ≤ 64) × (1 ≤ getD (a .heads .now) i 0) × (getD (a .heads .now) i 0 ≤ 64)
 ends-in c =
-    let i = c .before .loop .i in
-    let ends = c .before .before .pre in
+    let at-loop = c .before in
+    let i = at-loop .loop .i in
+    let ends = at-loop .before .pre in
     let less = c .loop-test .taken in
     (ends .tail-low i less, omega (arith, ends .tail-high i less, ends .size), ends .head-low i less, omega (arith, ends .head-high i less, ends .size))
 
@@ -44,64 +53,64 @@ element-copy-out-head : tie.Need-element-copy-out-head Inv-loop μ-loop
 element-copy-out-head c = search needs
 
 cast-head : tie.Need-cast-head Inv-loop μ-loop
-cast-head c = let e = ends-in (c .before .before) in omega (arith, e .0, e .1, e .2, e .3)
+cast-head c = let e = ends-in (at-head c) in omega (arith, e .0, e .1, e .2, e .3)
 
 sub-head : tie.Need-sub-head Inv-loop μ-loop
-sub-head c = let e = ends-in (c .before .before) in omega (arith, e .0, e .1, e .2, e .3)
+sub-head c = let e = ends-in (at-head c) in omega (arith, e .0, e .1, e .2, e .3)
 
 mul-firm : tie.Need-mul-firm Inv-loop μ-loop
-mul-firm c = let e = ends-in (c .before .before) in omega (arith, e .0, e .1, e .2, e .3)
+mul-firm c = let e = ends-in (at-head c) in omega (arith, e .0, e .1, e .2, e .3)
 
 array-read-firm : tie.Need-array-read-firm Inv-loop μ-loop
-array-read-firm c = let e = ends-in (c .before .before) in omega (arith, e .0, e .1, e .2, e .3)
+array-read-firm c = let e = ends-in (at-head c) in omega (arith, e .0, e .1, e .2, e .3)
 
 shl-firm : tie.Need-shl-firm Inv-loop μ-loop
-shl-firm c = let e = ends-in (c .before .before) in omega (arith, e .0, e .1, e .2, e .3)
+shl-firm c = let e = ends-in (at-head c) in omega (arith, e .0, e .1, e .2, e .3)
 
 mul-firm-2 : tie.Need-mul-firm-2 Inv-loop μ-loop
-mul-firm-2 c = let e = ends-in (c .before .before) in omega (arith, e .0, e .1, e .2, e .3)
+mul-firm-2 c = let e = ends-in (at-head c) in omega (arith, e .0, e .1, e .2, e .3)
 
 array-write-firm : tie.Need-array-write-firm Inv-loop μ-loop
-array-write-firm c = let e = ends-in (c .before .before) in omega (arith, e .0, e .1, e .2, e .3)
+array-write-firm c = let e = ends-in (at-head c) in omega (arith, e .0, e .1, e .2, e .3)
 
 element-copy-out-if1 : tie.Need-element-copy-out-if1 Inv-loop μ-loop
 element-copy-out-if1 c = search needs
 
 mul-firm-3 : tie.Need-mul-firm-3 Inv-loop μ-loop
-mul-firm-3 c = let e = ends-in (c .before .before .before .before) in omega (arith, e .0, e .1, e .2, e .3)
+mul-firm-3 c = let e = ends-in (at-flagged c) in omega (arith, e .0, e .1, e .2, e .3)
 
 array-read-firm-2 : tie.Need-array-read-firm-2 Inv-loop μ-loop
-array-read-firm-2 c = let e = ends-in (c .before .before .before .before) in omega (arith, e .0, e .1, e .2, e .3)
+array-read-firm-2 c = let e = ends-in (at-flagged c) in omega (arith, e .0, e .1, e .2, e .3)
 
 mul-firm-4 : tie.Need-mul-firm-4 Inv-loop μ-loop
-mul-firm-4 c = let e = ends-in (c .before .before .before .before) in omega (arith, e .0, e .1, e .2, e .3)
+mul-firm-4 c = let e = ends-in (at-flagged c) in omega (arith, e .0, e .1, e .2, e .3)
 
 array-read-firm-3 : tie.Need-array-read-firm-3 Inv-loop μ-loop
-array-read-firm-3 c = let e = ends-in (c .before .before .before .before) in omega (arith, e .0, e .1, e .2, e .3)
+array-read-firm-3 c = let e = ends-in (at-flagged c) in omega (arith, e .0, e .1, e .2, e .3)
 
 shl-firm-2 : tie.Need-shl-firm-2 Inv-loop μ-loop
-shl-firm-2 c = let e = ends-in (c .before .before .before .before) in omega (arith, e .0, e .1, e .2, e .3)
+shl-firm-2 c = let e = ends-in (at-flagged c) in omega (arith, e .0, e .1, e .2, e .3)
 
 mul-firm-5 : tie.Need-mul-firm-5 Inv-loop μ-loop
-mul-firm-5 c = let e = ends-in (c .before .before .before .before) in omega (arith, e .0, e .1, e .2, e .3)
+mul-firm-5 c = let e = ends-in (at-flagged c) in omega (arith, e .0, e .1, e .2, e .3)
 
 array-write-firm-2 : tie.Need-array-write-firm-2 Inv-loop μ-loop
-array-write-firm-2 c = let e = ends-in (c .before .before .before .before) in omega (arith, e .0, e .1, e .2, e .3)
+array-write-firm-2 c = let e = ends-in (at-flagged c) in omega (arith, e .0, e .1, e .2, e .3)
 
 mul-once : tie.Need-mul-once Inv-loop μ-loop
-mul-once c = let e = ends-in (c .before .before .before .before) in omega (arith, e .0, e .1, e .2, e .3)
+mul-once c = let e = ends-in (at-flagged c) in omega (arith, e .0, e .1, e .2, e .3)
 
 array-read-once : tie.Need-array-read-once Inv-loop μ-loop
-array-read-once c = let e = ends-in (c .before .before .before .before) in omega (arith, e .0, e .1, e .2, e .3)
+array-read-once c = let e = ends-in (at-flagged c) in omega (arith, e .0, e .1, e .2, e .3)
 
 shl-once : tie.Need-shl-once Inv-loop μ-loop
-shl-once c = let e = ends-in (c .before .before .before .before) in omega (arith, e .0, e .1, e .2, e .3)
+shl-once c = let e = ends-in (at-flagged c) in omega (arith, e .0, e .1, e .2, e .3)
 
 mul-once-2 : tie.Need-mul-once-2 Inv-loop μ-loop
-mul-once-2 c = let e = ends-in (c .before .before .before .before) in omega (arith, e .0, e .1, e .2, e .3)
+mul-once-2 c = let e = ends-in (at-flagged c) in omega (arith, e .0, e .1, e .2, e .3)
 
 array-write-once : tie.Need-array-write-once Inv-loop μ-loop
-array-write-once c = let e = ends-in (c .before .before .before .before) in omega (arith, e .0, e .1, e .2, e .3)
+array-write-once c = let e = ends-in (at-flagged c) in omega (arith, e .0, e .1, e .2, e .3)
 
 add-i : tie.Need-add-i Inv-loop μ-loop
 add-i c = search needs
@@ -110,7 +119,7 @@ loop-less : tie.Need-loop-less Inv-loop μ-loop
 loop-less c = search needs
 
 loop-again : tie.Need-loop-again Inv-loop μ-loop
-loop-again c = let g = c .before .before .before .before in let l = g .before .loop in let a = g .before .before .args in let e = ends-in g in (
+loop-again c = let turn = at-end c in let l = turn .before .loop in let a = turn .before .before .args in let e = ends-in turn in (
   omega arith,
   ⊎-elim
       (λ w. rw (w .1, w .2) (firm-both (l .i) (a .tails .now) (a .heads .now) (a .flags .now) (l .once) (l .firm) (l .inv .1) (e .0) (e .1) (e .2) (e .3) (w .0 .taken)))

@@ -1,4 +1,4 @@
--- `tightbench::set_in` meets its contract: finding by finding. Assumes nothing.
+-- `tightbench::set_in` gives the set that was found, or none: finding by finding. Assumes nothing.
 use mathlib.Core.Path.{sym, ap}
 use borrow.Author.Needs.{needs}
 use Rattle.answers.specs.Answers.{set-of}

@@ -1,4 +1,4 @@
--- `tighthall::main` meets its contract. Assumes nothing.
+-- `tighthall::main` ends: the arguments are taken three by three, up to number 4096. The invariant: i is from 1 to 4099. The measure is count + 2 - i. Assumes nothing.
 use Prim.Native.Nat.{_≤_, _-_, _+_}
 use borrow.Author.Needs.{needs}
 use Rattle.tighthall.proofs.main.Statement.{statement}

@@ -1,4 +1,4 @@
--- `tighthall::print_neighbourhood` meets its contract. Assumes nothing.
+-- `tighthall::print_neighbourhood` lends as many of the rows as it is told to: the list has them. Assumes nothing.
 use mathlib.Core.Path.{sym}
 use lib.Seq.{length-take-le}
 use borrow.Author.Needs.{needs}
@@ -9,7 +9,7 @@ array-share-prefix-rows : tie.Need-array-share-prefix-rows
 array-share-prefix-rows c = search needs
 
 slice-aggregate-tight-neighbourhood : tie.Need-slice-aggregate-tight-neighbourhood
-slice-aggregate-tight-neighbourhood c = sym (length-take-le (c .before .before .args .count) (c .before .before .args .t2) (search needs))
+slice-aggregate-tight-neighbourhood c = let a = c .before .before .args in sym (length-take-le (a .count) (a .t2) (search needs))
 
 tight-neighbourhood-requires : tie.Need-tight-neighbourhood-requires
 tight-neighbourhood-requires c κs = search needs

@@ -1,4 +1,4 @@
--- `trychoices::of_size` meets its contract. Assumes nothing.
+-- `trychoices::of_size` ends and tries only halls that `counted` takes. The invariant: the number is at most 1000000000. The measure is what it lacks of that. Assumes nothing.
 use Prim.Native.Nat.{_≤_, _-_}
 use borrow.Author.Needs.{needs}
 use Rattle.trychoices.proofs.of_size.Statement.{statement}

@@ -1,4 +1,4 @@
--- `trychoices::try_all` meets its contract. Assumes nothing.
+-- `trychoices::try_all` ends and asks for sizes that `of_size` takes. The invariant: the row count is from 1 to one more than the most rows. The measure is rows + 1 - count. Assumes nothing.
 use Prim.Native.Nat.{_≤_, _-_, _+_}
 use borrow.Author.Needs.{needs}
 use Rattle.trychoices.proofs.try_all.Statement.{statement}

@@ -1,4 +1,4 @@
--- `trychoices::try_random` meets its contract. Assumes nothing.
+-- `trychoices::try_random` ends and tries only halls that `counted` takes. The invariant: k is at most the number of halls. The measure is halls - k. Assumes nothing.
 use Prim.Native.Nat.{_≤_, _-_}
 use borrow.Author.Needs.{needs}
 use Rattle.trychoices.proofs.try_random.Statement.{statement}

@@ -1,4 +1,4 @@
--- The arguments are taken one after another. Assumes nothing.
+-- `trycuts::main` ends: the arguments are taken one after another, up to number 4096. The invariant: i is from 1 to 4097. The measure is count + 1 - i. Assumes nothing.
 use Prim.Native.Nat.{_+_, _≤_, _-_}
 use borrow.Author.Needs.{needs}
 use Rattle.trycuts.proofs.main.Statement.{statement}

@@ -1,4 +1,4 @@
--- The rows are printed one after another. Assumes nothing.
+-- `trycuts::print_rows` ends and reads no place outside the list. The invariant: k is at most the number of rows. The measure is chosen - k. Assumes nothing.
 use Prim.Native.Nat.{_≤_, _-_}
 use borrow.Author.Needs.{needs}
 use Rattle.trycuts.proofs.print_rows.Statement.{statement}

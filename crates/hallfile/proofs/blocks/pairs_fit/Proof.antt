@@ -1,4 +1,4 @@
--- `hallfile::blocks::pairs_fit` meets its contract. The loop's invariant: the pairs from k on keep the rules exactly where all do. Assumes nothing.
+-- `hallfile::blocks::pairs_fit` tells whether every pair keeps the rules. The invariant: k is at most the number of blocks, and the pairs from k on keep the rules exactly where all do. The measure is blocks - k. Assumes nothing.
 use mathlib.Core.Path.{_≡_, sym, _∙_}
 use Prim.Native.Nat.{_+_, _-_, _*_, _≤_}
 use native.Mathlib.Omega.{arith}
@@ -14,6 +14,13 @@ Inv-loop file blocks end least₀ k₀ least k = (k ≤ blocks) × (pairs-good (
 
 abbrev μ-loop : tie.MeasureT-loop
 μ-loop file blocks end least₀ k₀ least k = blocks - k
+
+-- the places of the code, each from the one after it: a turn where its pair was tried, the loop's head, the start
+abbrev at-loop : tie.After-pair-fits Inv-loop μ-loop → tie.At-loop Inv-loop μ-loop
+at-loop c = c .before .before .before .before
+
+abbrev at-start : tie.At-loop Inv-loop μ-loop → tie.Start Inv-loop μ-loop
+at-start c = c .before .before
 
 mul-least : tie.Need-mul-least Inv-loop μ-loop
 mul-least c = search needs
@@ -34,9 +41,9 @@ pair-fits-requires : tie.Need-pair-fits-requires Inv-loop μ-loop
 pair-fits-requires c κs = search needs
 
 returns : tie.Need-returns Inv-loop μ-loop
-returns c = let l = c .before .before .before .before .before in let file = l .before .before .args .file .now in
-    sym (pairs-fail file (l .before .before .args .blocks) (l .loop .k) (l .loop .least) (c .before .before .before .start .result)
-    (c .before .before .size .result) (omega arith) (c .before .before .before .start .ensures .0) (c .before .before .size .ensures .0) (sym (c .before .pair-fits .ensures) ∙ not-true _ (c .if1 .taken)))
+returns c = let tried = c .before in let size = tried .before .size in let start = tried .before .before .start in let l = at-loop tried in let a = at-start l .args in
+    sym (pairs-fail (a .file .now) (a .blocks) (l .loop .k) (l .loop .least) (start .result) (size .result) (omega arith) (start .ensures .0) (size .ensures .0)
+    (sym (tried .pair-fits .ensures) ∙ not-true _ (c .if1 .taken)))
     ∙ l .loop .inv .1
 
 add-least-2 : tie.Need-add-least-2 Inv-loop μ-loop
@@ -49,16 +56,16 @@ loop-less : tie.Need-loop-less Inv-loop μ-loop
 loop-less c = search needs
 
 loop-again : tie.Need-loop-again Inv-loop μ-loop
-loop-again c = let l = c .before .before .before .before .before in let file = l .before .before .args .file .now in (
+loop-again c = let tried = c .before in let size = tried .before .size in let start = tried .before .before .start in let l = at-loop tried in let a = at-start l .args in (
   omega arith,
-  sym (pairs-pass file (l .before .before .args .blocks) (l .loop .k) (l .loop .least) (c .before .before .before .start .result)
-      (c .before .before .size .result) (omega arith) (c .before .before .before .start .ensures .0) (c .before .before .size .ensures .0) (sym (c .before .pair-fits .ensures) ∙ not-false _ (c .if1 .left)))
+  sym (pairs-pass (a .file .now) (a .blocks) (l .loop .k) (l .loop .least) (start .result) (size .result) (omega arith) (start .ensures .0) (size .ensures .0)
+      (sym (tried .pair-fits .ensures) ∙ not-false _ (c .if1 .left)))
       ∙ l .loop .inv .1,
 )
 
 returns-2 : tie.Need-returns-2 Inv-loop μ-loop
-returns-2 c = let l = c .before in
-    sym (pairs-end (l .before .before .args .file .now) (l .before .before .args .blocks) (l .loop .k) (l .loop .least) (omega arith)) ∙ l .loop .inv .1
+returns-2 c = let l = c .before in let a = at-start l .args in
+    sym (pairs-end (a .file .now) (a .blocks) (l .loop .k) (l .loop .least) (omega arith)) ∙ l .loop .inv .1
 
 pub pairs-fit-spec : {M : Type 1} → statement M
 pairs-fit-spec =

@@ -1,4 +1,5 @@
--- `hallfile::blocks::row_count` meets its contract. The loop's invariant: the rows counted and those of the blocks from k on are all rows. Assumes nothing.
+-- `hallfile::blocks::row_count` counts the rows of all blocks. The invariant: k is at most the number of blocks, and the rows counted, which are at most 2 ^ 32 a block, with those of the blocks from k on are all rows.
+-- The measure is blocks - k. Assumes nothing.
 use mathlib.Core.Path.{_≡_, ap}
 use Prim.Native.Nat.{_+_, _-_, _*_, _^_, _≤_}
 use native.Mathlib.Omega.{arith}
@@ -14,6 +15,9 @@ Inv-loop file blocks rows₀ k₀ rows k = (k ≤ blocks) × (rows ≤ k * 2 ^ 3
 
 abbrev μ-loop : tie.MeasureT-loop
 μ-loop file blocks rows₀ k₀ rows k = blocks - k
+
+abbrev at-start : tie.At-loop Inv-loop μ-loop → tie.Start Inv-loop μ-loop
+at-start l = l .before .before
 
 loop-holds : tie.Need-loop-holds Inv-loop μ-loop
 loop-holds c = let m = c .before .args .blocks in let e : m - 0 ≡ m = omega arith in (omega arith, omega arith, rw e (omega arith))
@@ -31,12 +35,12 @@ loop-less : tie.Need-loop-less Inv-loop μ-loop
 loop-less c = search needs
 
 loop-again : tie.Need-loop-again Inv-loop μ-loop
-loop-again c = let l = c .before .before in
-    (omega arith, omega arith, omega (arith, l .loop .inv .2, count-more (l .before .before .args .file .now) (l .before .before .args .blocks) (l .loop .k) (omega arith), c .size .ensures .0))
+loop-again c = let l = c .before .before in let a = at-start l .args in
+    (omega arith, omega arith, omega (arith, l .loop .inv .2, count-more (a .file .now) (a .blocks) (l .loop .k) (omega arith), c .size .ensures .0))
 
 returns : tie.Need-returns Inv-loop μ-loop
-returns c = let l = c .before in
-    omega (arith, l .loop .inv .2, ap length (blocks-end (l .before .before .args .file .now) (l .before .before .args .blocks) (l .loop .k) (omega arith)))
+returns c = let l = c .before in let a = at-start l .args in
+    omega (arith, l .loop .inv .2, ap length (blocks-end (a .file .now) (a .blocks) (l .loop .k) (omega arith)))
 
 pub row-count-spec : {M : Type 1} → statement M
 row-count-spec =

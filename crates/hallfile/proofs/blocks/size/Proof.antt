@@ -1,4 +1,4 @@
--- `hallfile::blocks::size` meets its contract: a block's length is a number of four bytes. Assumes nothing.
+-- `hallfile::blocks::size` gives a block's length: the number in the last four bytes of its pair. Assumes nothing.
 use borrow.Author.Needs.{needs}
 use Rattle.hall.specs.File.{long-of}
 use Rattle.hallfile.proofs.blocks.size.Statement.{statement}

@@ -1,4 +1,4 @@
--- `hallfile::blocks::start` meets its contract: a block's offset is a number of four bytes. Assumes nothing.
+-- `hallfile::blocks::start` gives a block's offset: the number in the first four bytes of its pair. Assumes nothing.
 use borrow.Author.Needs.{needs}
 use Rattle.hall.specs.File.{offset}
 use Rattle.hallfile.proofs.blocks.start.Statement.{statement}

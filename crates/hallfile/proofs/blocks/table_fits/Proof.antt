@@ -1,4 +1,4 @@
--- `hallfile::blocks::table_fits` meets its contract, test by test. Assumes nothing.
+-- `hallfile::blocks::table_fits` tells whether the table of blocks is good: there are few enough, the table lies in the file, every pair keeps the rules. Assumes nothing.
 use mathlib.Core.Path.{_∙_}
 use borrow.Author.Tests.{le-leb, lt-leb}
 use borrow.Author.Needs.{needs}
@@ -6,7 +6,7 @@ use Rattle.hallfile.proofs.blocks.table_fits.Statement.{statement}
 use Rattle.hallfile.proofs.blocks.table_fits.Tie as tie
 
 returns : tie.Need-returns
-returns c = let a = c .before .before .args in rw (lt-leb (a .blocks) 16 (c .if1 .taken))
+returns c = rw (lt-leb _ 16 (c .if1 .taken))
 
 mul-if2 : tie.Need-mul-if2
 mul-if2 c = search needs

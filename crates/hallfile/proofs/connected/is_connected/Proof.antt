@@ -1,4 +1,4 @@
--- `hallfile::connected::is_connected` meets its contract: what is reached from junction 1 over all rows, either way, is the whole hall or not. Assumes nothing.
+-- `hallfile::connected::is_connected` tells whether the hall is connected: what is reached from junction 1 over all rows, either way, is the whole hall or not. Assumes nothing.
 use mathlib.Core.Path.{_≡_, sym, ap, _∙_}
 use mathlib.Core.Bool.{true, false}
 use Prim.Native.Nat.{_-_}
@@ -12,6 +12,16 @@ use Rattle.hallfile.proofs.Links.{reach-connected}
 use Rattle.hallfile.proofs.connected.is_connected.Statement.{statement}
 use Rattle.hallfile.proofs.connected.is_connected.Tie as tie
 
+-- the places of the code, each from the one after it: what is reached, the sets of all rows, the start
+abbrev at-reach : tie.After-struct-known → tie.After-reach
+at-reach c = c .before .before
+
+abbrev at-sets : tie.After-reach → tie.After-of-rows
+at-sets c = c .before .before
+
+abbrev at-start : tie.After-of-rows → tie.Start
+at-start c = c .before .before .before .before .before
+
 of-rows-requires : tie.Need-of-rows-requires
 of-rows-requires c κs = search needs
 
@@ -23,9 +33,9 @@ full-requires c κs = search needs
 
 returns : tie.Need-returns
 returns c = λ h cols.
-    let reach = c .before .before .reach in
-    let sets = c .before .before .before .before .of-rows in
-    let s = c .before .before .before .before .before .before .before .before .before in
+    let reach = at-reach c .reach in
+    let sets = at-sets (at-reach c) .of-rows in
+    let s = at-start (at-sets (at-reach c)) in
     let hall = s .args .t1 in
     let size : full (hall .n) ≡ full (h .n) = ap full (sym (cols .junctions)) in
     ap (eqb (reach .result)) (c .before .full .ensures ∙ size)

@@ -1,12 +1,14 @@
--- `hallfile::rows::read_rows` meets its contract. The loop's invariant is Progress: the rows before place i are stored and fine. Assumes nothing.
+-- `hallfile::rows::read_rows` replies with the first refused row, or with the hall of all rows. The invariant: the rows before place i are stored and fine, and those from the file's place on are the others (Progress).
+-- The measure is count - i. Assumes nothing.
 use mathlib.Core.Bool.{true}
 use mathlib.Core.Path.{_≡_, refl, sym, ap, _∙_}
-use Prim.Native.Nat.{_+_, _-_, _≤_}
+use Prim.Native.Nat.{ℕ, _+_, _-_, _≤_}
 use native.Mathlib.Omega.{arith}
 use lib.Dec.{eqb}
 use borrow.Author.Needs.{needs}
 use Rattle.hall.specs.File.{refusal, blocks}
-use Rattle.hall.specs.Hall.{row-of}
+use Rattle.hall.specs.Hall.{Row, row-of}
+use Rattle.hallfile.specs.declared.places.Lane.{Lane}
 use Rattle.refusals.specs.Kinds.{refusal-of}
 use Rattle.hallfile.specs.Places.{row-refusal}
 use Rattle.hallfile.specs.Record.{padded}
@@ -16,12 +18,6 @@ use Rattle.hallfile.proofs.Reply.{reply-refused, reply-hall}
 use Rattle.hallfile.proofs.Progress.{Progress, progress-left, progress-none, progress-more, progress-ends, progress-all}
 use Rattle.hallfile.proofs.rows.read_rows.Statement.{statement}
 use Rattle.hallfile.proofs.rows.read_rows.Tie as tie
-use Rattle.hallfile.proofs.rows.read_rows.Reads as reads
-use Rattle.hallfile.proofs.rows.read_rows.Lts as lts
-use Rattle.refusals.proofs.Kind.is_none.Reads as is-none-reads
-use Rattle.hallfile.proofs.Reading.refused.Reads as refused-reads
-use Rattle.hallfile.proofs.rows.lane_refusal.Reads as lane-refusal-reads
-use Rattle.hallfile.proofs.view.next_row.Reads as next-row-reads
 
 abbrev Inv-loop : tie.InvT-loop
 Inv-loop file n count tails₀ heads₀ prices₀ place₀ i₀ tails heads prices place i = Progress file n (blocks file) tails heads prices place i
@@ -29,37 +25,55 @@ Inv-loop file n count tails₀ heads₀ prices₀ place₀ i₀ tails heads pric
 abbrev μ-loop : tie.MeasureT-loop
 μ-loop file n count tails₀ heads₀ prices₀ place₀ i₀ tails heads prices place i = count - i
 
-abbrev Passed : Type 0
-Passed =
-    lts.Else1
-    (next-row-reads.Asked, next-row-reads.Learnt, lane-refusal-reads.Asked, lane-refusal-reads.Learnt, is-none-reads.Asked, is-none-reads.Learnt, refused-reads.Asked, refused-reads.Learnt)
-    reads.Pre reads.Post Inv-loop μ-loop
+-- the places of the code, each from the one after it: a turn where its row is not refused, where the row is read, the loop's head, the start
+abbrev at-fine : tie.After-place Inv-loop μ-loop → tie.Else1 Inv-loop μ-loop
+at-fine c = c .before .before .before .before
 
--- where a row is not refused
-module _ (e : Passed) where
-  fine : eqb (row-refusal (e .before .before .before .before .before .before .loop .i + 1) (e .before .before .before .before .before .before .before .before .args .n)
-      (row-of (e .before .before .before .before .next-row .result .lane .from) (e .before .before .before .before .next-row .result .lane .to)
-      (e .before .before .before .before .next-row .result .lane .price)) .number) 0 ≡ true
+abbrev at-row : tie.After-is-none Inv-loop μ-loop → tie.After-next-row Inv-loop μ-loop
+at-row c = c .before .before .before
+
+abbrev at-loop : tie.After-next-row Inv-loop μ-loop → tie.At-loop Inv-loop μ-loop
+at-loop c = c .before .before
+
+abbrev at-start : tie.At-loop Inv-loop μ-loop → tie.Start Inv-loop μ-loop
+at-start c = c .before .before
+
+-- where a row is read
+module _ (g : tie.After-next-row Inv-loop μ-loop) where
+  abbrev i : ℕ
+  i = at-loop g .loop .i
+
+  abbrev n : ℕ
+  n = at-start (at-loop g) .args .n
+
+  abbrev lane : Lane
+  lane = g .next-row .result .lane
+
+  abbrev row : Row
+  row = row-of (lane .from) (lane .to) (lane .price)
+
+-- where it is not refused
+module _ (e : tie.Else1 Inv-loop μ-loop) where
+  abbrev read : tie.After-next-row Inv-loop μ-loop
+  read = at-row (e .before)
+
+  fine : eqb (row-refusal (i read + 1) (n read) (row read) .number) 0 ≡ true
   fine = is-fine (e .before .before .lane-refusal .result) _ (e .before .is-none .result) (e .before .before .lane-refusal .ensures) (e .before .is-none .ensures) (e .if1 .left)
 
-  small : (e .before .before .before .before .next-row .result .lane .from ≤ 64) × (e .before .before .before .before .next-row .result .lane .to ≤ 64)
-      × (e .before .before .before .before .next-row .result .lane .price ≤ 1000000)
+  small : (lane read .from ≤ 64) × (lane read .to ≤ 64) × (lane read .price ≤ 1000000)
   unfolding row-of
   small =
-      let n = e .before .before .before .before .before .before .before .before .args .n in
-      let lane = e .before .before .before .before .next-row .result .lane in
-      let row = row-of (lane .from) (lane .to) (lane .price) in
-      let good = fine-row (e .before .before .before .before .before .before .loop .i + 1) n row fine in
-      let ends = fine-ends n row (good .0) in
-      let pre = e .before .before .before .before .before .before .before .before .pre in
+      let good = fine-row (i read + 1) (n read) (row read) fine in
+      let ends = fine-ends (n read) (row read) (good .0) in
+      let pre = at-start (at-loop read) .pre in
       (omega (arith, ends .1, pre .3), omega (arith, ends .3, pre .3), good .1)
 
 loop-holds : tie.Need-loop-holds Inv-loop μ-loop
 unfolding padded
-loop-holds c = progress-none (c .before .args .file .now) (c .before .args .n) (blocks (c .before .args .file .now)) _ refl
+loop-holds c = let a = c .before .args in progress-none (a .file .now) (a .n) (blocks (a .file .now)) _ refl
 
 next-row-requires : tie.Need-next-row-requires Inv-loop μ-loop
-next-row-requires c κs = let l = c .before .loop in let s = c .before .before .before in
+next-row-requires c κs = let l = c .before .loop in let s = at-start (c .before) in
     record {
       table = s .pre .0;
       stands = l .inv .stands;
@@ -82,11 +96,10 @@ refused-requires : tie.Need-refused-requires Inv-loop μ-loop
 refused-requires c κs = search needs
 
 returns : tie.Need-returns Inv-loop μ-loop
-returns c = let v = c .before .before in let g = v .before .before .before in let l = g .before .before .loop in let s = g .before .before .before .before in
-    let lane = g .next-row .result .lane in
+returns c = let v = c .before .before in let g = at-row v in let l = at-loop g .loop in let s = at-start (at-loop g) in
     let told = is-refused (v .before .lane-refusal .result) _ (v .is-none .result) (v .before .lane-refusal .ensures) (v .is-none .ensures) (c .before .if1 .taken) in
     let ends = progress-ends (s .args .file .now) (s .args .n) (blocks (s .args .file .now)) (l .tails) (l .heads) (l .prices) (l .place) (l .i) (l .inv) (omega (arith, s .pre .1))
-    (lane .from) (lane .to) (lane .price) (g .next-row .result .after) (g .next-row .ensures .stands) (g .next-row .ensures .rest) told in
+    (lane g .from) (lane g .to) (lane g .price) (g .next-row .result .after) (g .next-row .ensures .stands) (g .next-row .ensures .rest) told in
     reply-refused _ _ (c .refused .result) (ap refusal-of (c .refused .ensures .0) ∙ v .before .lane-refusal .ensures ∙ sym ends) (rw ends told) (c .refused .ensures .1)
 
 cast-tails : tie.Need-cast-tails Inv-loop μ-loop
@@ -117,14 +130,13 @@ loop-less : tie.Need-loop-less Inv-loop μ-loop
 loop-less c = search needs
 
 loop-again : tie.Need-loop-again Inv-loop μ-loop
-loop-again c = let e = c .before .before .before .before in let g = e .before .before .before .before in let l = g .before .before .loop in let s = g .before .before .before .before in
-    let lane = g .next-row .result .lane in
+loop-again c = let e = at-fine c in let g = read e in let l = at-loop g .loop in let s = at-start (at-loop g) in
     progress-more (s .args .file .now) (s .args .n) (blocks (s .args .file .now)) (l .tails) (l .heads) (l .prices) (l .place) (l .i) (l .inv) (omega (arith, s .pre .1))
-    (lane .from) (lane .to) (lane .price) (g .next-row .result .after) (g .next-row .ensures .stands) (g .next-row .ensures .rest) (omega (arith, s .pre .2)) (fine e)
+    (lane g .from) (lane g .to) (lane g .price) (g .next-row .result .after) (g .next-row .ensures .stands) (g .next-row .ensures .rest) (omega (arith, s .pre .2)) (fine e)
 
 returns-2 : tie.Need-returns-2 Inv-loop μ-loop
 unfolding refusal-of refusal
-returns-2 c = let l = c .before .loop in let s = c .before .before .before in
+returns-2 c = let l = c .before .loop in let s = at-start (c .before) in
     let all = progress-all (s .args .file .now) (s .args .n) (blocks (s .args .file .now)) (l .tails) (l .heads) (l .prices) (l .place) (l .i) (s .args .count) (l .inv) (s .pre .1) (omega arith) in
     reply-hall _ _ _ (sym (all .0)) (rw (all .0)) (all .1)
 

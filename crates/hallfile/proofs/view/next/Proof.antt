@@ -1,4 +1,4 @@
--- `hallfile::view::next` meets its contract: a walk of its MIR, by hand. The view is taken apart, and `step_from` is called on the file and the place. All that the proof knows of `step_from` is that it meets its contract.
+-- `hallfile::view::next` gives the row in front of the view, and the place after it: a walk of its MIR, by hand. The view is taken apart, and `step_from` is called on the file and the place. All that the proof knows of `step_from` is that it meets its contract.
 -- The view is Copy: what it owns is had twice, and one copy is kept whole for the exit. The callee takes the fields in their order and nothing else, so what the fields own together is what it asks, by computation. The lifetime's token goes to it, and comes back.
 -- Assumes nothing.
 use mathlib.Core.Path.{_≡_, refl}

@@ -1,4 +1,4 @@
--- `hallfile::view::next_row` meets its contract: a walk of its MIR, by hand. A view is made of the file and the place in a local, and passed to `next`. All that the proof knows of `next` is that it meets its contract.
+-- `hallfile::view::next_row` gives the row in front of the place, and the place after it: a walk of its MIR, by hand. A view is made of the file and the place in a local, and passed to `next`. All that the proof knows of `next` is that it meets its contract.
 -- Both parameters are Copy, so what they own is had twice: once inside the view, and once for the exit. In a local of a body MIR erases the lifetime of the view's type.
 -- Assumes nothing.
 use mathlib.Core.Path.{refl}

@@ -1,4 +1,4 @@
--- `costs::ranked_costs` meets its contract: the first k costs are ranked. Assumes nothing.
+-- `ledger::costs::ranked_costs` gives the ranked costs of the first m rows. The invariant: k is at most m, and the first k costs are 257 times the price and 1, the others 0 (Padded). The measure is m - k. Assumes nothing.
 use mathlib.Core.Path.{refl}
 use Prim.Native.Nat.{ℕ, _+_, _*_, _-_, _≤_}
 use native.Mathlib.Omega.{arith}
@@ -15,6 +15,14 @@ Inv-loop m prices costs₀ k₀ costs k = (k ≤ m) × Padded 256 (λ (i : ℕ).
 abbrev μ-loop : tie.MeasureT-loop
 μ-loop m prices costs₀ k₀ costs k = m - k
 
+-- the loop's head, from where a turn has its row's price
+abbrev at-loop : tie.After-costs Inv-loop μ-loop → tie.At-loop Inv-loop μ-loop
+at-loop c = c .before .before
+
+-- that price
+small : (c : tie.After-costs Inv-loop μ-loop) → let l = at-loop c in getD (l .before .args .prices .now) (l .loop .k) 0 ≤ 1000000
+small c = let l = at-loop c in l .before .pre .1 (l .loop .k) (c .before .loop-test .taken)
+
 loop-holds : tie.Need-loop-holds Inv-loop μ-loop
 loop-holds c = let a = c .args in (omega arith, padded-none 256 (λ (i : ℕ). 257 * getD (a .prices .now) i 0 + 1))
 
@@ -25,13 +33,13 @@ element-copy-out-costs : tie.Need-element-copy-out-costs Inv-loop μ-loop
 element-copy-out-costs c = search needs
 
 cast-costs : tie.Need-cast-costs Inv-loop μ-loop
-cast-costs c = let l = c .before .before in let low = l .before .pre .1 (l .loop .k) (c .before .loop-test .taken) in record { fits = omega (arith, low) }
+cast-costs c = record { fits = omega (arith, small c) }
 
 mul-costs-2 : tie.Need-mul-costs-2 Inv-loop μ-loop
-mul-costs-2 c = let l = c .before .before in let low = l .before .pre .1 (l .loop .k) (c .before .loop-test .taken) in record { fits = omega (arith, low) }
+mul-costs-2 c = record { fits = omega (arith, small c) }
 
 add-costs : tie.Need-add-costs Inv-loop μ-loop
-add-costs c = let l = c .before .before in let low = l .before .pre .1 (l .loop .k) (c .before .loop-test .taken) in record { fits = omega (arith, low) }
+add-costs c = record { fits = omega (arith, small c) }
 
 mul-costs-3 : tie.Need-mul-costs-3 Inv-loop μ-loop
 mul-costs-3 c = search needs
@@ -46,10 +54,12 @@ loop-less : tie.Need-loop-less Inv-loop μ-loop
 loop-less c = search needs
 
 loop-again : tie.Need-loop-again Inv-loop μ-loop
-loop-again c = let l = c .before .before in let a = l .before .args in (omega arith, padded-more 256 (λ (i : ℕ). 257 * getD (a .prices .now) i 0 + 1) (l .loop .k) (l .loop .costs) _ (omega arith) refl (l .loop .inv .1))
+loop-again c = let l = at-loop c in let a = l .before .args in
+    (omega arith, padded-more 256 (λ (i : ℕ). 257 * getD (a .prices .now) i 0 + 1) (l .loop .k) (l .loop .costs) _ (omega arith) refl (l .loop .inv .1))
 
 returns : tie.Need-returns Inv-loop μ-loop
-returns c = let l = c .before in let a = l .before .args in padded-all 256 (λ (i : ℕ). 257 * getD (a .prices .now) i 0 + 1) (l .loop .k) (l .loop .costs) (l .loop .inv .1) (a .m) (l .loop .inv .0) (c .loop-test .left)
+returns c = let l = c .before in let a = l .before .args in
+    padded-all 256 (λ (i : ℕ). 257 * getD (a .prices .now) i 0 + 1) (l .loop .k) (l .loop .costs) (l .loop .inv .1) (a .m) (l .loop .inv .0) (c .loop-test .left)
 
 pub ranked-costs-spec : {M : Type 1} → statement M
 ranked-costs-spec =

@@ -1,4 +1,4 @@
--- `listing::list_rows` meets its contract: the first k rows of the choice are listed. Assumes nothing.
+-- `ledger::listing::list_rows` lists the flagged rows, ascending, in the first places. The invariant: k is at most m, and the list has the flagged rows among the first k, and is else as it was (Noted). The measure is m - k. Assumes nothing.
 use mathlib.Core.Path.{_≡_, _∙_}
 use Prim.Native.Nat.{_-_, _≤_}
 use native.Mathlib.Omega.{arith}
@@ -14,6 +14,10 @@ Inv-loop m flags rows₀ filled₀ k₀ rows filled k = (k ≤ m) × Noted (flag
 
 abbrev μ-loop : tie.MeasureT-loop
 μ-loop m flags rows₀ filled₀ k₀ rows filled k = m - k
+
+-- the loop's head, from a turn's end
+abbrev at-loop : tie.Joined1 Inv-loop μ-loop → tie.At-loop Inv-loop μ-loop
+at-loop c = c .before .before .before
 
 loop-holds : tie.Need-loop-holds Inv-loop μ-loop
 loop-holds c = let a = c .args in (omega arith, noted-none (flagged (a .flags .now)) (a .rows .now))
@@ -43,7 +47,7 @@ loop-less : tie.Need-loop-less Inv-loop μ-loop
 loop-less c = search needs
 
 loop-again : tie.Need-loop-again Inv-loop μ-loop
-loop-again c = let l = c .before .before .before in let a = l .before .args in let k = l .loop .k in
+loop-again c = let l = at-loop c in let a = l .before .args in let k = l .loop .k in
     ⊎-elim
     (λ w. (omega arith, rw (w .1, w .2) (noted-next (flagged (a .flags .now)) (a .rows .now) k (l .loop .filled) (l .loop .rows) (l .loop .inv .1) (flag-at (a .flags .now) k ∙ w .0 .taken) (omega arith))))
     (λ w. (omega arith, rw (w .1, w .2) (noted-same (flagged (a .flags .now)) (a .rows .now) k (l .loop .filled) (l .loop .rows) (l .loop .inv .1) (flag-at (a .flags .now) k ∙ w .0 .left))))

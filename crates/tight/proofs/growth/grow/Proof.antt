@@ -1,6 +1,7 @@
--- `tight::growth::grow` meets its contract: it expands one junction a turn, and the set stays right. Assumes nothing.
+-- `tight::growth::grow` gives the set with more junctions, and with all that solid arcs, second arcs and known sets then add: it expands one junction a turn.
+-- The invariant: the junctions to do are a word and in the set, which holds what it started with, and if that is a set that grows then so is this (Growing). The measure is the number of junctions not yet expanded. Assumes nothing.
 use mathlib.Core.Path.{_≡_}
-use Prim.Native.Nat.{ℕ, _+_, _^_, _<_}
+use Prim.Native.Nat.{ℕ, _+_, _^_, _≤_, _<_}
 use native.Mathlib.Omega.{arith}
 use lib.Bits.{bitOr}
 use lib.Count.{trailingZeros, trailing-le}
@@ -25,6 +26,20 @@ Inv-loop arcs solid known set once more grown₀ todo₀ found₀ grown todo fou
 abbrev μ-loop : tie.MeasureT-loop
 μ-loop arcs solid known set once more grown₀ todo₀ found₀ grown todo found = unexpanded 64 grown todo
 
+-- the turn, from where it has the arcs of its junction, the solid ones, and the known set
+abbrev at-arcs : tie.After-arcs Inv-loop μ-loop → tie.In-loop Inv-loop μ-loop
+at-arcs c = c .before
+
+abbrev at-solid : tie.After-arcs2 Inv-loop μ-loop → tie.In-loop Inv-loop μ-loop
+at-solid c = at-arcs (c .before)
+
+abbrev at-known : tie.After-arcs3 Inv-loop μ-loop → tie.In-loop Inv-loop μ-loop
+at-known c = at-solid (c .before)
+
+-- the junction at hand is one of 1 to 64
+here : (c : tie.In-loop Inv-loop μ-loop) → let x = trailingZeros 64 (c .before .loop .todo) + 1 in (1 ≤ x) × (x ≤ 64)
+here c = let l = c .before .loop in (omega arith, omega (arith, trailing-lt 64 (l .todo) (omega arith) (l .inv .0)))
+
 loop-holds : tie.Need-loop-holds Inv-loop μ-loop
 unfolding Within
 loop-holds c = let a = c .args in (omega arith, more-within (a .set) (a .more), λ j l t. t, λ v known g. g)
@@ -36,25 +51,24 @@ add-x : tie.Need-add-x Inv-loop μ-loop
 add-x c = record { fits = omega (arith, trailing-le 64 (c .before .loop .todo)) }
 
 arcs-requires : tie.Need-arcs-requires Inv-loop μ-loop
-arcs-requires c κs = (omega arith, omega (arith, trailing-lt 64 (c .before .loop .todo) (omega arith) (c .before .loop .inv .0)))
+arcs-requires c κs = here c
 
 arcs-requires-2 : tie.Need-arcs-requires-2 Inv-loop μ-loop
-arcs-requires-2 c κs = (omega arith, omega (arith, trailing-lt 64 (c .before .before .loop .todo) (omega arith) (c .before .before .loop .inv .0)))
+arcs-requires-2 c κs = here (at-arcs c)
 
 arcs-requires-3 : tie.Need-arcs-requires-3 Inv-loop μ-loop
-arcs-requires-3 c κs =
-    (omega arith, omega (arith, trailing-lt 64 (c .before .before .before .loop .todo) (omega arith) (c .before .before .before .loop .inv .0)))
+arcs-requires-3 c κs = here (at-solid c)
 
 sub-todo : tie.Need-sub-todo Inv-loop μ-loop
 sub-todo c = search needs
 
 loop-less : tie.Need-loop-less Inv-loop μ-loop
-loop-less c = let l = c .before .before .before .before .loop in
+loop-less c = let l = at-known c .before .loop in
     pending-less (l .grown) (l .todo) (sure-of (c .before .before .arcs .result) (c .before .arcs2 .result) (l .found) (c .arcs3 .result)) (omega arith)
     (l .inv .0) (l .inv .1)
 
 loop-again : tie.Need-loop-again Inv-loop μ-loop
-loop-again c = let l = c .before .before .before .before .loop in let a = c .before .before .before .before .before .args in
+loop-again c = let at-loop = at-known c .before in let l = at-loop .loop in let a = at-loop .before .args in
     let next = c .before .before .arcs in let strong = c .before .arcs2 in let near = c .arcs3 in
     let sure = sure-of (next .result) (strong .result) (l .found) (near .result) in
     let low = lowest-is (l .todo) (omega arith) (l .inv .0) in (

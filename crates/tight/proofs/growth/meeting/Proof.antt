@@ -1,4 +1,5 @@
--- `tight::growth::meeting` meets its contract: one search after another, until one meets the others. Assumes nothing.
+-- `tight::growth::meeting` gives junctions in which the searches from two heads meet, or none where they keep apart: one search after another, until one meets the others.
+-- The invariant: the rest is a word, and the searches from the heads before it kept apart (Keeping). The measure is the rest as a number: it loses its lowest head each turn. Assumes nothing.
 use Prim.Native.Nat.{suc, _-_, _^_, _<_}
 use native.Mathlib.Omega.{arith}
 use lib.Bits.{bitAnd}
@@ -17,6 +18,10 @@ Inv-loop arcs set heads other₀ rest₀ other rest = (rest < 2 ^ 64) × Keeping
 abbrev μ-loop : tie.MeasureT-loop
 μ-loop arcs set heads other₀ rest₀ other rest = rest
 
+-- the loop's head, from where a turn's search was made
+abbrev at-loop : tie.After-search-beside Inv-loop μ-loop → tie.At-loop Inv-loop μ-loop
+at-loop c = c .before .before
+
 loop-holds : tie.Need-loop-holds Inv-loop μ-loop
 loop-holds c = let a = c .args in (omega arith, keeping-start (out-of (a .arcs .now)) (a .set) (a .heads))
 
@@ -31,7 +36,7 @@ search-beside-requires c κs = let l = c .before .loop in let s = c .before .bef
 )
 
 returns : tie.Need-returns Inv-loop μ-loop
-returns c = let l = c .before .before .before .loop in let s = c .before .before .before .before in let a = s .args in
+returns c = let l = at-loop (c .before) .loop in let s = at-loop (c .before) .before in let a = s .args in
     let r = c .before .search-beside .result in
     keeping-met (out-of (a .arcs .now)) (a .set) (a .heads) (l .other) (l .rest) (suc (trailingZeros 64 (l .rest))) (r .seen) (r .met) (omega arith)
     (next-head (l .rest) (omega arith) (l .inv .0)) (s .pre) (l .inv .1) (c .before .search-beside .ensures) (c .if1 .taken)
@@ -40,10 +45,10 @@ sub-rest : tie.Need-sub-rest Inv-loop μ-loop
 sub-rest c = search needs
 
 loop-less : tie.Need-loop-less Inv-loop μ-loop
-loop-less c = clear-less (c .before .before .before .loop .rest) (omega arith)
+loop-less c = clear-less (at-loop (c .before) .loop .rest) (omega arith)
 
 loop-again : tie.Need-loop-again Inv-loop μ-loop
-loop-again c = let l = c .before .before .before .loop in let s = c .before .before .before .before in let a = s .args in
+loop-again c = let l = at-loop (c .before) .loop in let s = at-loop (c .before) .before in let a = s .args in
     let r = c .before .search-beside .result in (
       omega (arith, clear-less (l .rest) (omega arith)),
       keeping-step (out-of (a .arcs .now)) (a .set) (a .heads) (l .other) (l .rest) (suc (trailingZeros 64 (l .rest))) (r .seen) (r .met) (omega arith)

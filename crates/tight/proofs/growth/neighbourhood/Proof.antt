@@ -1,4 +1,6 @@
--- `tight::growth::neighbourhood` meets its contract: the set grows by what its searches meet in, until they keep apart. Assumes nothing.
+-- `tight::growth::neighbourhood` gives the junctions that v reaches even without any one arc that is not solid: the set grows by what the searches from it meet in, until they keep apart.
+-- The invariant: the set is a word, what was met lies outside it, the set with what was met is one that grows from v (Growing), and where nothing was met the searches keep apart (Parted).
+-- The measure is 2 ^ 64 less the set as a number: a turn adds what was met. Assumes nothing.
 use mathlib.Core.Path.{_≡_}
 use mathlib.Core.Bool.{true, false}
 use Prim.Native.Nat.{ℕ, _-_, _^_, _≤_, _<_}
@@ -25,15 +27,16 @@ Inv-loop arcs solid known v set₀ once₀ met₀ set once met =
 abbrev μ-loop : tie.MeasureT-loop
 μ-loop arcs solid known v set₀ once₀ met₀ set once met = 2 ^ 64 - set
 
--- src/growth.rt:109:30
+-- the loop's head, from where a turn's searches were made
+abbrev at-loop : tie.After-meeting Inv-loop μ-loop → tie.At-loop Inv-loop μ-loop
+at-loop c = c .before .before .before
+
 sub-met : tie.Need-sub-met Inv-loop μ-loop
 sub-met c = search needs
 
--- src/growth.rt:109:24
 shl-met : tie.Need-shl-met Inv-loop μ-loop
 shl-met c = search needs
 
--- src/growth.rt:110:5
 loop-holds : tie.Need-loop-holds Inv-loop μ-loop
 loop-holds c = let a = c .args in
     rw (one-shl (a .v - 1) (omega arith)) (
@@ -43,22 +46,18 @@ loop-holds c = let a = c .args in
       λ e. absurd (omega (arith, pow-pos (a .v - 1))),
     )
 
--- src/growth.rt:111:13
 grow-requires : tie.Need-grow-requires Inv-loop μ-loop
 grow-requires c κs = search needs
 
--- src/growth.rt:114:9
 meeting-requires : tie.Need-meeting-requires Inv-loop μ-loop
 meeting-requires c κs = let g = c .grow .result in λ y l t. less-r (g .once) (g .set) y t
 
--- src/growth.rt:110:5
 loop-less : tie.Need-loop-less Inv-loop μ-loop
-loop-less c = let l = c .before .before .before .loop in let g = c .before .grow in
+loop-less c = let l = at-loop c .loop in let g = c .before .grow in
     omega (arith, set-more (l .set) (l .met) (g .result .set) (omega arith) (l .inv .1) (g .ensures .0), g .ok)
 
--- src/growth.rt:110:5
 loop-again : tie.Need-loop-again Inv-loop μ-loop
-loop-again c = let a = c .before .before .before .before .args in let l = c .before .before .before .loop in let g = c .before .grow in (
+loop-again c = let l = at-loop c .loop in let a = at-loop c .before .args in let g = c .before .grow in (
   omega (arith, g .ok),
   λ y k t. c .meeting .ensures .met y k t .0,
   λ known.
@@ -67,9 +66,8 @@ loop-again c = let a = c .before .before .before .before .args in let l = c .bef
   c .meeting .ensures .none,
 )
 
--- src/growth.rt:97:1
 returns : tie.Need-returns Inv-loop μ-loop
-returns c = let a = c .before .before .args in let p = c .before .before .pre in let l = c .before .loop in
+returns c = let l = c .before .loop in let at-start = c .before .before in let a = at-start .args in let p = at-start .pre in
     let done : l .met ≡ 0 = c .loop-test .left in
     let last = l .inv .3 done in
     λ known.

@@ -1,4 +1,4 @@
--- `tries::file::of_small` meets its contract. Assumes nothing.
+-- `tries::file::of_small` ends, and takes and writes only rows that the hall has and the file has room for. The invariant: i is at most the row count. The measure is count - i. Assumes nothing.
 use Prim.Native.Nat.{_≤_, _-_}
 use borrow.Author.Needs.{needs}
 use Rattle.tries.proofs.file.of_small.Statement.{statement}

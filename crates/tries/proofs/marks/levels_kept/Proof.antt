@@ -1,4 +1,4 @@
--- `tries::marks::levels_kept` meets its contract. Assumes nothing.
+-- `tries::marks::levels_kept` ends and reads no place outside the list. The invariant: i is at least the first place looked at. The measure is 64 - i. Assumes nothing.
 use Prim.Native.Nat.{_≤_, _-_}
 use borrow.Author.Needs.{needs}
 use Rattle.tries.proofs.marks.levels_kept.Statement.{statement}

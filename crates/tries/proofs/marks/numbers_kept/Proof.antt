@@ -1,4 +1,4 @@
--- `tries::marks::numbers_kept` meets its contract. Assumes nothing.
+-- `tries::marks::numbers_kept` ends and reads no place outside the list. The invariant: i is at least the first place looked at. The measure is the length less i. Assumes nothing.
 use Prim.Native.Nat.{_≤_, _-_}
 use lib.ListN.{length}
 use borrow.Author.Needs.{needs}

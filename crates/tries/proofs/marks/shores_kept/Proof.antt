@@ -1,4 +1,4 @@
--- `tries::marks::shores_kept` meets its contract. Assumes nothing.
+-- `tries::marks::shores_kept` ends and reads no place outside the list. The invariant: i is at least the first place looked at. The measure is 125 - i. Assumes nothing.
 use Prim.Native.Nat.{_≤_, _-_}
 use borrow.Author.Needs.{needs}
 use Rattle.tries.proofs.marks.shores_kept.Statement.{statement}

@@ -1,4 +1,4 @@
--- `tries::random::below` meets its contract. Assumes nothing.
+-- `tries::random::below` gives a number below the bound, a remainder. Assumes nothing.
 use native.Mathlib.Nat.{mod-lt}
 use borrow.Author.Needs.{needs}
 use Rattle.tries.proofs.random.below.Statement.{statement}

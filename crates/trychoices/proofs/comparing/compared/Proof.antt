@@ -1,10 +1,14 @@
--- `trychoices::comparing::compared` meets its contract. Assumes nothing.
+-- `trychoices::comparing::compared` lends as many bytes of the file as its length says: the file has them. Assumes nothing.
 use lib.ListN.{length}
 use lib.Seq.{length-take-le}
 use mathlib.Core.Path.{sym}
 use borrow.Author.Needs.{needs}
 use Rattle.trychoices.proofs.comparing.compared.Statement.{statement}
 use Rattle.trychoices.proofs.comparing.compared.Tie as tie
+
+-- where the file's length is known, from where its bytes are lent a second time
+abbrev at-length : tie.After-file2 → tie.After-length
+at-length c = c .before .before .before
 
 of-small-requires : tie.Need-of-small-requires
 of-small-requires c κs = search needs
@@ -25,7 +29,7 @@ array-share-prefix-file-2 : tie.Need-array-share-prefix-file-2
 array-share-prefix-file-2 c = search needs
 
 slice-aggregate-judged : tie.Need-slice-aggregate-judged
-slice-aggregate-judged c = sym (length-take-le (c .before .before .before .length .result) (c .before .before .before .before .of-small .result) (search needs))
+slice-aggregate-judged c = sym (length-take-le (at-length c .length .result) (at-length c .before .of-small .result) (search needs))
 
 first-choice-requires : tie.Need-first-choice-requires
 first-choice-requires c κs = search needs

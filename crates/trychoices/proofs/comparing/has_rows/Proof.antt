@@ -1,4 +1,4 @@
--- `trychoices::comparing::has_rows` meets its contract. Assumes nothing.
+-- `trychoices::comparing::has_rows` ends and reads no place outside the lists. The invariant: k is at most the choice's row count. The measure is count - k. Assumes nothing.
 use Prim.Native.Nat.{_≤_, _-_}
 use borrow.Author.Needs.{needs}
 use Rattle.trychoices.proofs.comparing.has_rows.Statement.{statement}

@@ -1,4 +1,4 @@
--- `trychoices::drawing::of_number` meets its contract. Assumes nothing.
+-- `trychoices::drawing::of_number` gives a hall of at most 6 junctions and 10 rows. The invariant: i is at most the row count, and the hall has i rows and at most 6 junctions. The measure is count - i. Assumes nothing.
 use Prim.Native.Nat.{_≤_, _-_}
 use mathlib.Core.Path.{_≡_}
 use borrow.Author.Needs.{needs}

@@ -1,4 +1,4 @@
--- `tryedges::large::path` meets its contract. Assumes nothing.
+-- `tryedges::large::path` ends and writes only rows that the file has room for. The invariant: i is at most 63. The measure is 63 - i. Assumes nothing.
 use Prim.Native.Nat.{_≤_, _-_}
 use borrow.Author.Needs.{needs}
 use Rattle.tryedges.proofs.large.path.Statement.{statement}

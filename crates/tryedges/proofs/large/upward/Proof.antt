@@ -1,4 +1,4 @@
--- `tryedges::large::upward` meets its contract. Assumes nothing.
+-- `tryedges::large::upward` ends and writes only rows that the file has room for. The invariant: i is at most 256. The measure is 256 - i. Assumes nothing.
 use Prim.Native.Nat.{_≤_, _-_}
 use borrow.Author.Needs.{needs}
 use Rattle.tryedges.proofs.large.upward.Statement.{statement}

@@ -1,4 +1,4 @@
--- `tryedges::report::print_rows` meets its contract. Assumes nothing.
+-- `tryedges::report::print_rows` ends and reads no place outside the list. The invariant: k is at most 256. The measure is 256 - k. Assumes nothing.
 use Prim.Native.Nat.{_≤_, _-_}
 use borrow.Author.Needs.{needs}
 use Rattle.tryedges.proofs.report.print_rows.Statement.{statement}
