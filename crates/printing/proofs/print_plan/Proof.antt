@@ -1,4 +1,5 @@
 -- `printing::print_plan` puts the parts of the list one after the other, from the front: the hall's line, the choice, the total, the cuts, the levels. The limits of a hall bound the end of each part, so that the next one fits. Assumes nothing.
+use mathlib.Core.Path.{_≡_, refl, _∙_}
 use mathlib.Core.List.{List, [], _∷_}
 use Prim.Native.Nat.{ℕ, _≤_}
 use native.Mathlib.Omega.{arith}
@@ -35,11 +36,11 @@ module _ (s : tie.Start) where
   abbrev parts : List (List ℕ)
   parts = hall-line ∷ choice-lines (hall-of hall) rows ∷ total-line ∷ cut-lines (hall .n) cuts ∷ levels-line (s .args .levels .now) ∷ []
 
-  -- the first k parts are put, and end by place m
+  -- the first k parts are put, they end by place m, and the buffer is as long as it was
   abbrev Parts-put : (k m : ℕ) → (now : List ℕ) → (place : ℕ) → Type 0
   Parts-put k m now place =
       Halfway (printed-plan (hall-of hall) rows (s .args .total) cuts (s .args .levels .now)) (drop k parts) 0 (s .args .out .now) now place
-      × (place ≤ m) × (65536 ≤ length now)
+      × (place ≤ m) × (length now ≡ length (s .args .out .now))
 
   hall-short : length hall-line ≤ 47
   hall-short = pair-line-short _ (hall .n) (hall .count) (omega (arith, s .pre .0 .junctions)) (omega (arith, s .pre .0 .few))
@@ -48,7 +49,7 @@ module _ (s : tie.Start) where
   total-short = number-line-short _ (s .args .total) (omega (arith, s .fits .total))
 
   none-put : Parts-put 0 0 (s .args .out .now) 0
-  none-put = (begun (plan-parts hall rows (s .args .total) cuts (s .args .levels .now)), omega arith, s .pre .1)
+  none-put = (begun (plan-parts hall rows (s .args .total) cuts (s .args .levels .now)), omega arith, refl)
 
   low : 0 ≤ length (s .args .out .now)
   low = omega arith
@@ -87,19 +88,19 @@ at-cuts c = c .before .before .before .before
 -- what each call leaves
 hall-put : (c : tie.After-put-pair-line) → Parts-put (hall-start c) 1 47 (c .put-pair-line .last .0) (c .put-pair-line .result)
 hall-put c = let s = hall-start c in let was = none-put s in
-    (further (low s) (was .0) (c .put-pair-line .ensures), ends-by (c .put-pair-line .ensures) (hall-short s), rw (c .put-pair-line .kept .0) (was .2))
+    (further (low s) (was .0) (c .put-pair-line .ensures), ends-by (c .put-pair-line .ensures) (hall-short s), c .put-pair-line .kept .0 ∙ was .2)
 
 choice-put : (c : tie.After-put-choice) → Parts-put (choice-start c) 2 7753 (c .put-choice .last .0) (c .put-choice .result)
 choice-put c = let s = choice-start c in let was = hall-put (at-hall c) in
-    (further (low s) (was .0) (c .put-choice .ensures .0), omega (arith, was .1, c .put-choice .ensures .1, rows-few s), rw (c .put-choice .kept .0) (was .2))
+    (further (low s) (was .0) (c .put-choice .ensures .0), omega (arith, was .1, c .put-choice .ensures .1, rows-few s), c .put-choice .kept .0 ∙ was .2)
 
 total-put : (c : tie.After-put-number-line) → Parts-put (total-start c) 3 7780 (c .put-number-line .last .0) (c .put-number-line .result)
 total-put c = let s = total-start c in let was = choice-put (at-choice c) in
-    (further (low s) (was .0) (c .put-number-line .ensures), omega (arith, was .1, ends-by (c .put-number-line .ensures) (total-short s)), rw (c .put-number-line .kept .0) (was .2))
+    (further (low s) (was .0) (c .put-number-line .ensures), omega (arith, was .1, ends-by (c .put-number-line .ensures) (total-short s)), c .put-number-line .kept .0 ∙ was .2)
 
 cuts-put : (c : tie.After-put-cut-list) → Parts-put (cuts-start c) 4 33181 (c .put-cut-list .last .0) (c .put-cut-list .result)
 cuts-put c = let s = cuts-start c in let was = total-put (at-total c) in
-    (further (low s) (was .0) (c .put-cut-list .ensures .0), omega (arith, was .1, c .put-cut-list .ensures .1, s .pre .0 .cuts), rw (c .put-cut-list .kept .0) (was .2))
+    (further (low s) (was .0) (c .put-cut-list .ensures .0), omega (arith, was .1, c .put-cut-list .ensures .1, s .pre .0 .cuts), c .put-cut-list .kept .0 ∙ was .2)
 
 slice-aggregate-put-pair-line : tie.Need-slice-aggregate-put-pair-line
 slice-aggregate-put-pair-line c = search needs
@@ -111,7 +112,7 @@ put-choice-requires : tie.Need-put-choice-requires
 put-choice-requires c κs =
     let p = c .before .before .before in
     let s = hall-start p in
-    ((s .pre .0 .few, s .pre .0 .choice), omega (arith, hall-put p .1, hall-put p .2, rows-few s))
+    ((s .pre .0 .few, s .pre .0 .choice), omega (arith, hall-put p .1, hall-put p .2, rows-few s, s .pre .1))
 
 slice-aggregate-put-number-line : tie.Need-slice-aggregate-put-number-line
 slice-aggregate-put-number-line c = search needs
@@ -119,21 +120,23 @@ slice-aggregate-put-number-line c = search needs
 put-number-line-requires : tie.Need-put-number-line-requires
 put-number-line-requires c κs =
     let p = c .before .before .before .before in
-    omega (arith, choice-put p .1, choice-put p .2, total-short (choice-start p))
+    let s = choice-start p in
+    omega (arith, choice-put p .1, choice-put p .2, total-short s, s .pre .1)
 
 put-cut-list-requires : tie.Need-put-cut-list-requires
 put-cut-list-requires c κs =
     let p = c .before .before .before in
     let s = total-start p in
-    ((s .pre .0 .junctions, s .pre .0 .paired), omega (arith, total-put p .1, total-put p .2, s .pre .0 .cuts))
+    ((s .pre .0 .junctions, s .pre .0 .paired), omega (arith, total-put p .1, total-put p .2, s .pre .0 .cuts, s .pre .1))
 
 put-levels-line-requires : tie.Need-put-levels-line-requires
 put-levels-line-requires c κs =
     let p = c .before .before .before in
-    omega (arith, cuts-put p .1, cuts-put p .2, cuts-start p .pre .0 .leveled)
+    let s = cuts-start p in
+    omega (arith, cuts-put p .1, cuts-put p .2, s .pre .0 .leveled, s .pre .1)
 
 same-length : tie.Need-same-length
-same-length c = search needs
+same-length c = let p = c .before .before in p .put-levels-line .kept .0 ∙ cuts-put (at-cuts p) .2
 
 returns : tie.Need-returns
 returns c =

@@ -1,4 +1,5 @@
 -- `printing::put_choice` puts the line of how many rows there are, then the rows' lines. Assumes nothing.
+use mathlib.Core.Path.{_∙_}
 use mathlib.Core.List.{List, [], _∷_}
 use Prim.Native.Nat.{ℕ, _+_, _≤_}
 use native.Mathlib.Omega.{arith}
@@ -26,9 +27,12 @@ module _ (s : tie.Start) where
   low : s .args .at ≤ length (s .args .out .now)
   low = omega (arith, s .pre .1)
 
--- the start, from the first call
+-- the places of the code: the start, from the first call, and that call, from the second
 abbrev at-start : tie.After-put-number-line → tie.Start
 at-start c = c .before .before .before .before .before
+
+abbrev at-line : tie.After-put-rows → tie.After-put-number-line
+at-line c = c .before .before .before .before
 
 -- once the first line is put
 module _ (c : tie.After-put-number-line) where
@@ -55,12 +59,12 @@ put-rows-requires c κs =
     (at-start p .pre .0, omega (arith, line-end p, at-start p .pre .1, p .put-number-line .kept .0))
 
 same-length : tie.Need-same-length
-same-length c = search needs
+same-length c = let p = c .before .before in p .put-rows .kept .0 ∙ at-line p .put-number-line .kept .0
 
 returns : tie.Need-returns
 returns c =
     let p = c .before .before in
-    let line = p .before .before .before .before in
+    let line = at-line p in
     (ended (further (low (at-start line)) (line-put line) (p .put-rows .ensures .0)), omega (arith, line-end line, p .put-rows .ensures .1))
 
 pub put-choice-spec : {M : Type 1} → statement M

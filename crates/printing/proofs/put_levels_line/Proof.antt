@@ -1,4 +1,5 @@
 -- `printing::put_levels_line` puts the word, the levels and the line's end, one after the other. Assumes nothing.
+use mathlib.Core.Path.{_∙_}
 use mathlib.Core.List.{List, [], _∷_}
 use Prim.Native.Nat.{ℕ, _≤_}
 use native.Mathlib.Omega.{arith}
@@ -55,7 +56,10 @@ put-byte-requires : tie.Need-put-byte-requires
 put-byte-requires c κs = search needs
 
 same-length : tie.Need-same-length
-same-length c = search needs
+same-length c =
+    let p = c .before .before in
+    let levels = at-levels p in
+    p .put-byte .kept .0 ∙ levels .put-levels .kept .0 ∙ at-word levels .put-text .kept .0
 
 returns : tie.Need-returns
 returns c =
