@@ -43,7 +43,7 @@ empty-weighs : (shores weights : ℕ → ℕ) (s : ℕ) → weight-in 0 shores w
 unfolding weight-in sum-below
 empty-weighs shores weights s = refl
 
-module _ (h : Hall) (F : ℕ → Bool) (n : ℕ) (links-at around-at potential mates-at : List ℕ) (b : Beside-rows h F n links-at around-at potential)
+module _ {h : Hall} {F : ℕ → Bool} {n : ℕ} {links-at around-at potential : List ℕ} (mates-at : List ℕ) (b : Beside-rows h F n links-at around-at potential)
     (mates-are : (a : ℕ) → 1 ≤ a → a ≤ n → out-of mates-at a ≡ mates-by n (out-of around-at) a) where
   n-is : n ≡ h .n
   n-is = sym (b .junctions)
@@ -77,9 +77,9 @@ module _ (h : Hall) (F : ℕ → Bool) (n : ℕ) (links-at around-at potential m
   room top small low under =
       weights-room h (b .ranged) (b .linked) (once F) (out-of potential) (b .joining) (b .parted) top (subst (λ (k : ℕ). Under k (out-of potential) top) n-is under) (omega (arith, n-is)) low
 
-  pub beside-fits : (shores weights : List ℕ) → n ≤ 64 → 125 ≤ length shores → 125 ≤ length weights
+  pub beside-fits : {shores weights : List ℕ} → n ≤ 64 → 125 ≤ length shores → 125 ≤ length weights
       → Fits 0 shores weights (levels-weigh n (out-of links-at) (out-of mates-at) (out-of potential) highest)
-  beside-fits shores weights small ls lw = record {
+  beside-fits {shores} {weights} small ls lw = record {
     listed = empty-listed (place-of shores) (place-of weights);
     most = weight h (once F) (out-of potential) highest;
     room = room highest small (omega arith) (b .low);
@@ -88,7 +88,7 @@ module _ (h : Hall) (F : ℕ → Bool) (n : ℕ) (links-at around-at potential m
     long-weights = lw;
   }
 
-  module _ (shores weights : List ℕ) (count : ℕ) (now-shores now-weights : List ℕ) (small : n ≤ 64)
+  module _ {shores weights : List ℕ} {count : ℕ} {now-shores now-weights : List ℕ} (small : n ≤ 64)
       (added : (top : ℕ) → Under n (out-of potential) top → Added 0 shores weights (levels-weigh n (out-of links-at) (out-of mates-at) (out-of potential) top) count now-shores now-weights) where
     weighs-now : (top : ℕ) → Under n (out-of potential) top → (s : ℕ) → weight-in count (place-of now-shores) (place-of now-weights) s ≡ weight h (once F) (out-of potential) top s
     unfolding nothing
@@ -111,7 +111,7 @@ module _ (h : Hall) (F : ℕ → Bool) (n : ℕ) (links-at around-at potential m
         }
 
 -- the levels of the cuts that the places are filled with
-module _ (h : Hall) (F : ℕ → Bool) (n : ℕ) (links-at around-at potential : List ℕ) (b : Beside-rows h F n links-at around-at potential) (shores weights : List ℕ) (count : ℕ) (now-shores now-weights : List ℕ) where
+module _ {h : Hall} {F : ℕ → Bool} {n : ℕ} {links-at around-at potential : List ℕ} (b : Beside-rows h F n links-at around-at potential) {shores weights : List ℕ} {count : ℕ} {now-shores now-weights : List ℕ} where
   pub filled-near : Filled-with (cuts h (once F) (out-of potential) highest) shores weights count now-shores now-weights → Near n (cuts-in count 0 (place-of now-shores) (place-of now-weights))
   unfolding Under
   filled-near f =
@@ -123,6 +123,6 @@ module _ (h : Hall) (F : ℕ → Bool) (n : ℕ) (links-at around-at potential :
       subst (λ (k : ℕ). Near k (cuts-in count 0 (place-of now-shores) (place-of now-weights))) (b .junctions)
       (subst (Near (h .n)) (sym (f .cuts-are)) near)
 
-  pub filled-levelled : (top : ℕ) (before after : List ℤ) → Filled-with (cuts h (once F) (out-of potential) top) shores weights count now-shores now-weights
+  pub filled-levelled : (top : ℕ) {before after : List ℤ} → Filled-with (cuts h (once F) (out-of potential) top) shores weights count now-shores now-weights
       → Levelled (cuts-in count 0 (place-of now-shores) (place-of now-weights)) n before after → Levelled (cuts h (once F) (out-of potential) top) n before after
-  filled-levelled top before after f g = subst (λ (ks : List Cut). Levelled ks n before after) (f .cuts-are) g
+  filled-levelled top {before} {after} f g = subst (λ (ks : List Cut). Levelled ks n before after) (f .cuts-are) g

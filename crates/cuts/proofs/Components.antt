@@ -14,19 +14,17 @@ use Rattle.cuts.specs.Shores.{components-weigh, classes-weigh, Component
 use Rattle.cuts.proofs.Rest.{outside-word}
 use Rattle.cuts.proofs.Taking.{taking-all, taking-none, taking-fits, taking-more, taking-less}
 
-module _ (n : ℕ) (links : ℕ → ℕ) (class weight count : ℕ) (shores weights : List ℕ) (all : ℕ) (all-is : all ≡ full n) (small : n ≤ 64) where
+module _ (class weight : ℕ) {n : ℕ} {links : ℕ → ℕ} {count : ℕ} {shores weights : List ℕ} {all : ℕ} (all-is : all ≡ full n) (small : n ≤ 64) where
   pub components-start : Listed count (place-of shores) (place-of weights) → Components n links class weight count shores weights (bitXor all (bitAnd all class)) count shores weights
-  components-start listed =
-      taking-all n links (outside n class) (λ (s : ℕ) (c : ℕ). alone (outside n c) weight s) count shores weights small (outside-lt n class) (bitXor all (bitAnd all class)) (outside-word n class all all-is) listed
+  components-start listed = taking-all small (outside-lt n class) (outside-word n class all all-is) listed
 
-  module _ (left now-count : ℕ) (now-shores now-weights : List ℕ) (t : Components n links class weight count shores weights left now-count now-shores now-weights) where
+  module _ {left now-count : ℕ} {now-shores now-weights : List ℕ} (t : Components n links class weight count shores weights left now-count now-shores now-weights) where
     pub components-end : left ≡ 0 → Added count shores weights (components-weigh n links class weight) now-count now-shores now-weights
     unfolding components-weigh
-    components-end e =
-        taking-none n links (outside n class) (λ (s : ℕ) (c : ℕ). alone (outside n c) weight s) count shores weights left now-count now-shores now-weights t e
+    components-end e = taking-none t e
 
-    module _ (to : ℕ → ℕ) (arcs : Mutual n links) (some : 0 < left) (same : (j : ℕ) → 1 ≤ j → j ≤ 64 → to j ≡ inside (bitXor all (bitAnd all class)) links j)
-        (found : ℕ) (reach : Reach 64 to ((1 * 2 ^ trailingZeros 64 left) % 2 ^ 64) found) where
+    module _ {to : ℕ → ℕ} {found : ℕ} (arcs : Mutual n links) (some : 0 < left) (same : (j : ℕ) → 1 ≤ j → j ≤ 64 → to j ≡ inside (bitXor all (bitAnd all class)) links j)
+        (reach : Reach 64 to ((1 * 2 ^ trailingZeros 64 left) % 2 ^ 64) found) where
       inside-is : (j : ℕ) → 1 ≤ j → j ≤ 64 → to j ≡ inside (outside n class) links j
       inside-is j l m = same j l m ∙ ap (λ (w : ℕ). inside w links j) (outside-word n class all all-is)
 
@@ -34,45 +32,35 @@ module _ (n : ℕ) (links : ℕ → ℕ) (class weight count : ℕ) (shores weig
       unfolding components-weigh
       components-fits fits =
           subst (λ (x : ℕ). Fits now-count now-shores now-weights (alone x weight)) (sym (outside-word n found all all-is))
-          (taking-fits n links (outside n class) (λ (s : ℕ) (c : ℕ). alone (outside n c) weight s) count shores weights left now-count now-shores now-weights t
-          to arcs small (outside-lt n class) some inside-is found reach fits)
+          (taking-fits t arcs small (outside-lt n class) some inside-is reach fits)
 
-      pub components-more : (count₂ : ℕ) (shores₂ weights₂ : List ℕ) → Added now-count now-shores now-weights (alone (bitXor all (bitAnd all found)) weight) count₂ shores₂ weights₂
+      pub components-more : {count₂ : ℕ} {shores₂ weights₂ : List ℕ} → Added now-count now-shores now-weights (alone (bitXor all (bitAnd all found)) weight) count₂ shores₂ weights₂
           → Components n links class weight count shores weights (bitXor left (bitAnd left found)) count₂ shores₂ weights₂
-      components-more count₂ shores₂ weights₂ added =
-          taking-more n links (outside n class) (λ (s : ℕ) (c : ℕ). alone (outside n c) weight s) count shores weights left now-count now-shores now-weights t
-          to arcs small (outside-lt n class) some inside-is found reach count₂ shores₂ weights₂
+      components-more {count₂} {shores₂} {weights₂} added =
+          taking-more t arcs small (outside-lt n class) some inside-is reach
           (subst (λ (x : ℕ). Added now-count now-shores now-weights (alone x weight) count₂ shores₂ weights₂) (outside-word n found all all-is) added)
 
       pub components-less : bitXor left (bitAnd left found) < left
-      components-less =
-          taking-less n links (outside n class) (λ (s : ℕ) (c : ℕ). alone (outside n c) weight s) count shores weights left now-count now-shores now-weights t
-          to arcs small (outside-lt n class) some inside-is found reach
+      components-less = taking-less t arcs small (outside-lt n class) some inside-is reach
 
-module _ (n : ℕ) (links mates : ℕ → ℕ) (set weight count : ℕ) (shores weights : List ℕ) (small : n ≤ 64) (low : set < 2 ^ n) where
+module _ (links : ℕ → ℕ) (weight : ℕ) {n : ℕ} {mates : ℕ → ℕ} {set count : ℕ} {shores weights : List ℕ} (small : n ≤ 64) (low : set < 2 ^ n) where
   pub classes-start : Listed count (place-of shores) (place-of weights) → Classes n links mates set weight count shores weights set count shores weights
-  classes-start listed = taking-all n mates set (λ (s : ℕ) (class : ℕ). components-weigh n links class weight s) count shores weights small low set refl listed
+  classes-start listed = taking-all small low refl listed
 
-  module _ (left now-count : ℕ) (now-shores now-weights : List ℕ) (t : Classes n links mates set weight count shores weights left now-count now-shores now-weights) where
+  module _ {left now-count : ℕ} {now-shores now-weights : List ℕ} (t : Classes n links mates set weight count shores weights left now-count now-shores now-weights) where
     pub classes-end : left ≡ 0 → Added count shores weights (classes-weigh n links mates set weight) now-count now-shores now-weights
     unfolding classes-weigh
-    classes-end e = taking-none n mates set (λ (s : ℕ) (class : ℕ). components-weigh n links class weight s) count shores weights left now-count now-shores now-weights t e
+    classes-end e = taking-none t e
 
-    module _ (to : ℕ → ℕ) (arcs : Mutual n mates) (some : 0 < left) (same : (j : ℕ) → 1 ≤ j → j ≤ 64 → to j ≡ inside set mates j)
-        (found : ℕ) (reach : Reach 64 to ((1 * 2 ^ trailingZeros 64 left) % 2 ^ 64) found) where
+    module _ {to : ℕ → ℕ} {found : ℕ} (arcs : Mutual n mates) (some : 0 < left) (same : (j : ℕ) → 1 ≤ j → j ≤ 64 → to j ≡ inside set mates j)
+        (reach : Reach 64 to ((1 * 2 ^ trailingZeros 64 left) % 2 ^ 64) found) where
       pub classes-fits : Fits count shores weights (classes-weigh n links mates set weight) → Fits now-count now-shores now-weights (components-weigh n links found weight)
       unfolding classes-weigh
-      classes-fits fits =
-          taking-fits n mates set (λ (s : ℕ) (class : ℕ). components-weigh n links class weight s) count shores weights left now-count now-shores now-weights t
-          to arcs small low some same found reach fits
+      classes-fits fits = taking-fits t arcs small low some same reach fits
 
-      pub classes-more : (count₂ : ℕ) (shores₂ weights₂ : List ℕ) → Added now-count now-shores now-weights (components-weigh n links found weight) count₂ shores₂ weights₂
+      pub classes-more : {count₂ : ℕ} {shores₂ weights₂ : List ℕ} → Added now-count now-shores now-weights (components-weigh n links found weight) count₂ shores₂ weights₂
           → Classes n links mates set weight count shores weights (bitXor left (bitAnd left found)) count₂ shores₂ weights₂
-      classes-more count₂ shores₂ weights₂ added =
-          taking-more n mates set (λ (s : ℕ) (class : ℕ). components-weigh n links class weight s) count shores weights left now-count now-shores now-weights t
-          to arcs small low some same found reach count₂ shores₂ weights₂ added
+      classes-more added = taking-more t arcs small low some same reach added
 
       pub classes-less : bitXor left (bitAnd left found) < left
-      classes-less =
-          taking-less n mates set (λ (s : ℕ) (class : ℕ). components-weigh n links class weight s) count shores weights left now-count now-shores now-weights t
-          to arcs small low some same found reach
+      classes-less = taking-less t arcs small low some same reach

@@ -115,10 +115,10 @@ certificate-near h x p ks some c low j l m =
     (omega (arith, e, low j l m), omega (arith, e, low 1 (omega arith) some))
 
 -- one level fits, and is the difference of the sums that the machine has
-module _ (ks : List Cut) (n k sum base : ℕ) (near : Near n ks) (l : k < n) (sum-is : sum ≡ level-sum (k + 1) ks) (base-is : base ≡ level-sum 1 ks) where
-  pub near-fits : (sum < base + 2 ^ 31) × (base < sum + 2 ^ 31)
+module _ (ks : List Cut) (k : ℕ) {sum base : ℕ} (sum-is : sum ≡ level-sum (k + 1) ks) (base-is : base ≡ level-sum 1 ks) where
+  pub near-fits : (n : ℕ) → Near n ks → k < n → (sum < base + 2 ^ 31) × (base < sum + 2 ^ 31)
   unfolding Near
-  near-fits = let e = near (k + 1) (omega arith) (omega arith) in (omega (arith, e .0), omega (arith, e .1))
+  near-fits n near l = let e = near (k + 1) (omega arith) (omega arith) in (omega (arith, e .0), omega (arith, e .1))
 
   pub level-is : difference sum base ≡ difference (level-sum (suc k) ks) (level-sum 1 ks)
   level-is = ap₂ difference (sum-is ∙ ap (λ (j : ℕ). level-sum j ks) (add-one k)) base-is

@@ -13,9 +13,9 @@ use Rattle.cuts.specs.Shores.{Rest, over-rest, Taking}
 use Rattle.cuts.proofs.Rest.{rest-all, over-all, over-none, take-rest, take-over, take-less}
 use Rattle.cuts.proofs.Room.{adding-none, adding-more, adding-all, fits-part}
 
-module _ (n : ℕ) (out : ℕ → ℕ) (w : ℕ) (f : ℕ → ℕ → ℕ) (count : ℕ) (shores weights : List ℕ) where
-  pub taking-all : n ≤ 64 → w < 2 ^ n → (left : ℕ) → left ≡ w → Listed count (place-of shores) (place-of weights) → Taking n out w f count shores weights left count shores weights
-  taking-all small low left e listed =
+module _ {n : ℕ} {out : ℕ → ℕ} {w : ℕ} {f : ℕ → ℕ → ℕ} {count : ℕ} {shores weights : List ℕ} where
+  pub taking-all : {left : ℕ} → n ≤ 64 → w < 2 ^ n → left ≡ w → Listed count (place-of shores) (place-of weights) → Taking n out w f count shores weights left count shores weights
+  taking-all {left} small low e listed =
       let a = adding-none count shores weights (λ s. over-pieces n out w (f s)) listed in
       record {
         fits = omega (arith, pow-mono {i = n} {j = 64} small);
@@ -31,14 +31,14 @@ module _ (n : ℕ) (out : ℕ → ℕ) (w : ℕ) (f : ℕ → ℕ → ℕ) (coun
         };
       }
 
-  module _ (left now-count : ℕ) (now-shores now-weights : List ℕ) (t : Taking n out w f count shores weights left now-count now-shores now-weights) where
+  module _ {left now-count : ℕ} {now-shores now-weights : List ℕ} (t : Taking n out w f count shores weights left now-count now-shores now-weights) where
     pub taking-none : left ≡ 0 → Added count shores weights (λ s. over-pieces n out w (f s)) now-count now-shores now-weights
     taking-none e =
         adding-all count shores weights (λ s. over-pieces n out w (f s)) now-count now-shores now-weights (λ s. over-rest n out w left (f s))
         (λ s. ap (λ (l : ℕ). over-rest n out w l (f s)) e ∙ over-none n out w (f s)) (t .adding)
 
-    module _ (to : ℕ → ℕ) (arcs : Mutual n out) (small : n ≤ 64) (low : w < 2 ^ n) (some : 0 < left)
-        (same : (j : ℕ) → 1 ≤ j → j ≤ 64 → to j ≡ inside w out j) (found : ℕ) (reach : Reach 64 to ((1 * 2 ^ trailingZeros 64 left) % 2 ^ 64) found) where
+    module _ {to : ℕ → ℕ} {found : ℕ} (arcs : Mutual n out) (small : n ≤ 64) (low : w < 2 ^ n) (some : 0 < left)
+        (same : (j : ℕ) → 1 ≤ j → j ≤ 64 → to j ≡ inside w out j) (reach : Reach 64 to ((1 * 2 ^ trailingZeros 64 left) % 2 ^ 64) found) where
       split : (s : ℕ) → over-rest n out w left (f s) ≡ f s found + over-rest n out w (bitXor left (bitAnd left found)) (f s)
       split s = take-over n out to arcs w left small low (t .rest) some (t .fits) same found reach (f s)
 
@@ -47,9 +47,9 @@ module _ (n : ℕ) (out : ℕ → ℕ) (w : ℕ) (f : ℕ → ℕ → ℕ) (coun
           fits-part count now-count now-count shores weights now-shores now-weights now-shores now-weights (λ s. over-pieces n out w (f s)) (λ s. over-rest n out w left (f s))
           (λ s. f s found) (λ s. over-rest n out w (bitXor left (bitAnd left found)) (f s)) split (t .adding) fits
 
-      pub taking-more : (count₂ : ℕ) (shores₂ weights₂ : List ℕ) → Added now-count now-shores now-weights (λ s. f s found) count₂ shores₂ weights₂
+      pub taking-more : {count₂ : ℕ} {shores₂ weights₂ : List ℕ} → Added now-count now-shores now-weights (λ s. f s found) count₂ shores₂ weights₂
           → Taking n out w f count shores weights (bitXor left (bitAnd left found)) count₂ shores₂ weights₂
-      taking-more count₂ shores₂ weights₂ added = record {
+      taking-more {count₂} {shores₂} {weights₂} added = record {
         fits = xor-lt 64 left (bitAnd left found) (t .fits) (omega (arith, and-le-l left found, t .fits));
         rest = take-rest n out to arcs w left small low (t .rest) some (t .fits) same found reach;
         adding =

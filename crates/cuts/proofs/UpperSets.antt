@@ -63,9 +63,9 @@ module _ (n : ℕ) (p : ℕ → ℕ) where
       (λ j l m. upper-holds n p q j l m ∙ lt-leb q (p j) (over j l m) ∙ sym (none-holds j))
 
 -- a value that is taken is not over the top
-pub next-high : (n : ℕ) (p : ℕ → ℕ) (low next top : ℕ) → Next n p low next → low < next → Under n p top → next ≤ top
+pub next-high : {n : ℕ} {p : ℕ → ℕ} {low next : ℕ} (top : ℕ) → Next n p low next → low < next → Under n p top → next ≤ top
 unfolding Under
-next-high n p low next top g l under = let w = g .taken l in omega (arith, under (w .0) (w .1) (w .2), w .3)
+next-high top g l under = let w = g .taken l in omega (arith, under (w .0) (w .1) (w .2), w .3)
 
 pub upper-fits : (n : ℕ) (p : ℕ → ℕ) (next set : ℕ) → set ≡ upper n p next → set < 2 ^ n
 upper-fits n p next set is = rw is (upper-lt n p next)
@@ -113,12 +113,12 @@ module _ (n : ℕ) (links mates p : ℕ → ℕ) where
       by-bool (leb low top) (λ t. levels-end low top s (leb-true low top t) a)
       (λ t. sym (levels-end top low s (omega (arith, borrow.Author.Tests.leb-false low top t)) b))
 
-  module _ (shores weights : List ℕ) where
+  module _ {shores weights : List ℕ} where
     pub added-none : Listed 0 (place-of shores) (place-of weights) → Added 0 shores weights (levels-weigh n links mates p 0) 0 shores weights
     unfolding levels-weigh nothing sum-below
     added-none listed = adding-none 0 shores weights nothing listed
 
-    module _ (low next filled set : ℕ) (now-shores now-weights : List ℕ) (g : Next n p low next) (is : set ≡ upper n p next)
+    module _ {low next filled set : ℕ} {now-shores now-weights : List ℕ} (g : Next n p low next) (is : set ≡ upper n p next)
         (added : Added 0 shores weights (levels-weigh n links mates p low) filled now-shores now-weights) where
       toward : Adding 0 shores weights (levels-weigh n links mates p next) filled now-shores now-weights (classes-weigh n links mates set (next - low))
       unfolding nothing
@@ -143,16 +143,16 @@ module _ (n : ℕ) (links mates p : ℕ → ℕ) where
         long-weights = omega (arith, f .long-weights, added .weights-size);
       }
 
-      pub added-next : (count₂ : ℕ) (shores₂ weights₂ : List ℕ) → Added filled now-shores now-weights (classes-weigh n links mates set (next - low)) count₂ shores₂ weights₂
+      pub added-next : {count₂ : ℕ} {shores₂ weights₂ : List ℕ} → Added filled now-shores now-weights (classes-weigh n links mates set (next - low)) count₂ shores₂ weights₂
           → Added 0 shores weights (levels-weigh n links mates p next) count₂ shores₂ weights₂
       unfolding nothing
-      added-next count₂ shores₂ weights₂ more =
+      added-next {count₂} {shores₂} {weights₂} more =
           adding-more 0 filled count₂ shores weights now-shores now-weights shores₂ weights₂ (levels-weigh n links mates p next)
           (classes-weigh n links mates set (next - low)) (classes-weigh n links mates set (next - low)) nothing (λ s. omega arith) toward more
 
     -- no value is over `low`
-    pub added-all : (low next filled : ℕ) (now-shores now-weights : List ℕ) → Next n p low next → next ≡ low → Added 0 shores weights (levels-weigh n links mates p low) filled now-shores now-weights
+    pub added-all : {low next filled : ℕ} {now-shores now-weights : List ℕ} → Next n p low next → next ≡ low → Added 0 shores weights (levels-weigh n links mates p low) filled now-shores now-weights
         → (top : ℕ) → Under n p top → Added 0 shores weights (levels-weigh n links mates p top) filled now-shores now-weights
     unfolding Under
-    added-all low next filled now-shores now-weights g e added top under =
+    added-all {low} {next} {filled} {now-shores} {now-weights} g e added top under =
         added-same 0 shores weights (levels-weigh n links mates p low) (levels-weigh n links mates p top) filled now-shores now-weights (λ s. levels-same low top s (g .none e) under) added

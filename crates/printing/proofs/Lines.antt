@@ -19,15 +19,15 @@ pub item-length : (n : ℕ) → length (item n) ≡ 1 + length (decimal n)
 unfolding item
 item-length n = omega arith
 
-pub number-line-length : (w : List ℕ) (a : ℕ) → length (number-line w a) ≡ length w + length (decimal a) + 1
+number-line-length : (w : List ℕ) (a : ℕ) → length (number-line w a) ≡ length w + length (decimal a) + 1
 unfolding number-line text
 number-line-length w a = omega (arith, length-append w (decimal a ++ one newline), length-append (decimal a) (one newline))
 
-pub pair-line-length : (w : List ℕ) (a b : ℕ) → length (pair-line w a b) ≡ length w + length (decimal a) + length (item b) + 1
+pair-line-length : (w : List ℕ) (a b : ℕ) → length (pair-line w a b) ≡ length w + length (decimal a) + length (item b) + 1
 unfolding pair-line text
 pair-line-length w a b = omega (arith, length-append w (decimal a ++ (item b ++ one newline)), length-append (decimal a) (item b ++ one newline), length-append (item b) (one newline))
 
-pub four-line-length : (a b c d : ℕ) → length (four-line a b c d) ≡ length (decimal a) + length (item b) + length (item c) + length (item d) + 1
+four-line-length : (a b c d : ℕ) → length (four-line a b c d) ≡ length (decimal a) + length (item b) + length (item c) + length (item d) + 1
 unfolding four-line text
 four-line-length a b c d =
     omega (
@@ -54,7 +54,7 @@ pub cut-line-pieces : (n s w : ℕ) → cut-line n (cut s w) ≡ text (decimal w
 unfolding cut-line cut
 cut-line-pieces n s w = refl
 
-pub cut-line-length : (n s w : ℕ) → length (cut-line n (cut s w)) ≡ length (decimal w) + length (set-text n 1 s) + 1
+cut-line-length : (n s w : ℕ) → length (cut-line n (cut s w)) ≡ length (decimal w) + length (set-text n 1 s) + 1
 unfolding cut-line cut text
 cut-line-length n s w = omega (arith, length-append (decimal w) (set-text n 1 s ++ one newline), length-append (set-text n 1 s) (one newline))
 

@@ -63,14 +63,6 @@ module _ {whole : List ℕ} {at : ℕ} {d : List ℕ} where
   pub recast : {left left′ : List (List ℕ)} {now : List ℕ} {p : ℕ} → text left ≡ text left′ → Halfway whole left at d now p → Halfway whole left′ at d now p
   recast e g = record { done = g .done; whole-is = g .whole-is ∙ ap (λ (l : List ℕ). g .done ++ l) e; so-far = g .so-far }
 
-  -- the next text fits where the whole does
-  pub room : {t : List ℕ} {left : List (List ℕ)} {now : List ℕ} {p : ℕ} → at + length whole ≤ length d → Halfway whole (t ∷ left) at d now p → p + length t ≤ length now
-  unfolding text
-  room {t} {left} {now} {p} h g =
-      let size : length whole ≡ length (g .done) + length (t ++ text left) = ap length (g .whole-is) ∙ length-append (g .done) (t ++ text left) in
-      let same : length now ≡ length d = ap length (g .so-far .bytes-there) ∙ placed-length d at (g .done) (omega arith) in
-      omega (arith, g .so-far .ends, length-append t (text left))
-
   -- the next text is put
   pub further : {t : List ℕ} {left : List (List ℕ)} {now after : List ℕ} {p q : ℕ} → at ≤ length d → Halfway whole (t ∷ left) at d now p → Put t p now after q → Halfway whole left at d after q
   unfolding text
@@ -90,3 +82,43 @@ module _ {whole : List ℕ} {at : ℕ} {d : List ℕ} where
   ended {now} {p} g =
       let all : g .done ≡ whole = sym (append-nil (g .done)) ∙ sym (g .whole-is) in
       subst (λ (l : List ℕ). Put l at d now p) all (g .so-far)
+
+-- where the bytes end
+pub ends-by : {bs : List ℕ} {at : ℕ} {d now : List ℕ} {p m : ℕ} → Put bs at d now p → length bs ≤ m → p ≤ at + m
+ends-by s h = omega (arith, s .ends)
+
+-- WRITING: the whole fits, and is put halfway
+pub record Writing (whole : List ℕ) (left : List (List ℕ)) (at : ℕ) (before now : List ℕ) (place : ℕ) : Type 0 where
+  pub fits : at + length whole ≤ length before
+  pub halfway : Halfway whole left at before now place
+
+module _ {whole : List ℕ} {at : ℕ} {d : List ℕ} where
+  pub begin : {left : List (List ℕ)} → at + length whole ≤ length d → whole ≡ text left → Writing whole left at d d at
+  begin h e = record { fits = h; halfway = begun e }
+
+  pub recut : {left left′ : List (List ℕ)} {now : List ℕ} {p : ℕ} → text left ≡ text left′ → Writing whole left at d now p → Writing whole left′ at d now p
+  recut e w = record { fits = w .fits; halfway = recast e (w .halfway) }
+
+  pub next : {t : List ℕ} {left : List (List ℕ)} {now after : List ℕ} {p q : ℕ} → Writing whole (t ∷ left) at d now p → Put t p now after q → Writing whole left at d after q
+  next w s = record { fits = w .fits; halfway = further (omega (arith, w .fits)) (w .halfway) s }
+
+  pub finish : {now : List ℕ} {p : ℕ} → Writing whole [] at d now p → Put whole at d now p
+  finish w = ended (w .halfway)
+
+  -- the list is as long as it was
+  pub same-size : {left : List (List ℕ)} {now : List ℕ} {p : ℕ} → Writing whole left at d now p → length now ≡ length d
+  same-size {left} w =
+      let g = w .halfway in
+      let size : length whole ≡ length (g .done) + length (text left) = ap length (g .whole-is) ∙ length-append (g .done) (text left) in
+      ap length (g .so-far .bytes-there) ∙ placed-length d at (g .done) (omega (arith, w .fits))
+
+  -- the next text fits, and so does the next byte
+  pub room : {t : List ℕ} {left : List (List ℕ)} {now : List ℕ} {p : ℕ} → Writing whole (t ∷ left) at d now p → p + length t ≤ length now
+  unfolding text
+  room {t} {left} w =
+      let g = w .halfway in
+      let size : length whole ≡ length (g .done) + length (t ++ text left) = ap length (g .whole-is) ∙ length-append (g .done) (t ++ text left) in
+      omega (arith, same-size w, w .fits, g .so-far .ends, length-append t (text left))
+
+  pub room-byte : {b : ℕ} {left : List (List ℕ)} {now : List ℕ} {p : ℕ} → Writing whole ((b ∷ []) ∷ left) at d now p → p < length now
+  room-byte w = omega (arith, room w)

@@ -92,11 +92,11 @@ unfolding level-item level-text text item
 high-pieces (pos n) e = ap (λ (l : List ℕ). space ∷ l) (sym (append-nil (decimal n)))
 high-pieces (negsuc n) e = clash refl e
 
-pub low-length : (z : ℤ) → ltZ z (pos 0) ≡ true → length (level-item z) ≡ 2 + length (decimal (natAbs z))
+low-length : (z : ℤ) → ltZ z (pos 0) ≡ true → length (level-item z) ≡ 2 + length (decimal (natAbs z))
 unfolding text
 low-length z e = omega (arith, ap length (low-pieces z e), ap length (append-nil (decimal (natAbs z))))
 
-pub high-length : (z : ℤ) → ltZ z (pos 0) ≡ false → length (level-item z) ≡ length (item (natAbs z))
+high-length : (z : ℤ) → ltZ z (pos 0) ≡ false → length (level-item z) ≡ length (item (natAbs z))
 unfolding text
 high-length z e = ap length (high-pieces z e) ∙ ap length (append-nil (item (natAbs z)))
 

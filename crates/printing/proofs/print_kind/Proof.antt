@@ -1,4 +1,4 @@
--- `printing::print_kind` meets its contract: the number and the row of the kind. Assumes nothing.
+-- `printing::print_kind` puts the refusal of a kind: the number and the row that are looked up make it. Assumes nothing.
 use borrow.Author.Needs.{needs}
 use Rattle.refusals.specs.Kinds.{refusal-of}
 use Rattle.printing.proofs.Parts.{refusal-is}
@@ -24,8 +24,12 @@ same-length : tie.Need-same-length
 same-length c = search needs
 
 returns : tie.Need-returns
-returns c = let p = c .before .before in let q = p .before .before in let s = q .before .before .before in
-    rw (refusal-is (refusal-of (s .args .kind)) (q .before .number-of .result) (q .row-of .result) (q .before .number-of .ensures) (q .row-of .ensures)) at (p .print-refusal .ensures)
+returns c =
+    let p = c .before .before in
+    let row = p .before .before in
+    let number = row .before in
+    let s = number .before .before in
+    rw (refusal-is (refusal-of (s .args .kind)) (number .number-of .result) (row .row-of .result) (number .number-of .ensures) (row .row-of .ensures)) at (p .print-refusal .ensures)
 
 pub print-kind-spec : {M : Type 1} → statement M
 print-kind-spec =

@@ -1,4 +1,4 @@
--- `printing::put_byte` meets its contract: one place is set. Assumes nothing.
+-- `printing::put_byte` puts one byte: one place is set. Assumes nothing.
 use borrow.Author.Needs.{needs}
 use Rattle.printing.proofs.Placed.{put-byte}
 use Rattle.printing.proofs.put_byte.Statement.{statement}

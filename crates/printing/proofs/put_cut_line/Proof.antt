@@ -1,30 +1,74 @@
--- `printing::put_cut_line` meets its contract: the weight, the shore, the line's end. Assumes nothing.
-use Prim.Native.Nat.{_≤_}
+-- `printing::put_cut_line` puts the weight, the shore's junctions and the line's end, one after the other. Assumes nothing.
+use mathlib.Core.List.{List, [], _∷_}
+use Prim.Native.Nat.{ℕ, _≤_}
 use native.Mathlib.Omega.{arith}
-use lib.ListN.{length}
-use borrow.Author.Needs.{needs}
-use Rattle.printing.proofs.Placed.{begun, further, ended}
-use Rattle.printing.proofs.Lines.{cut-line-length, cut-line-short, cut-line-pieces}
+use lib.ListN.{length, drop}
+use Rattle.hall.specs.Plan.{cut}
+use Rattle.printing.specs.Printed.{newline, decimal, one, set-text, cut-line}
+use Rattle.printing.proofs.Placed.{Writing, begin, next, finish, same-size, room, room-byte, ends-by}
+use Rattle.printing.proofs.Lines.{cut-line-short, cut-line-pieces}
 use Rattle.printing.proofs.put_cut_line.Statement.{statement}
 use Rattle.printing.proofs.put_cut_line.Tie as tie
 
+module _ (s : tie.Start) where
+  abbrev line : List ℕ
+  line = cut-line (s .args .n) (cut (s .args .shore) (s .args .weight))
+
+  abbrev pieces : List (List ℕ)
+  pieces = decimal (s .args .weight) ∷ set-text (s .args .n) 1 (s .args .shore) ∷ one newline ∷ []
+
+  -- the first k pieces are put
+  abbrev Pieces-put : (k : ℕ) → (now : List ℕ) → (place : ℕ) → Type 0
+  Pieces-put k now place = Writing line (drop k pieces) (s .args .at) (s .args .out .now) now place
+
+  short : length line ≤ 203
+  short = cut-line-short (s .args .n) (s .args .shore) (s .args .weight) (s .pre .0) (s .fits .weight .fits)
+
+  none-put : Pieces-put 0 (s .args .out .now) (s .args .at)
+  none-put = begin (omega (arith, short, s .pre .1)) (cut-line-pieces (s .args .n) (s .args .shore) (s .args .weight))
+
+-- the places of the code: the call before each call, and the start
+abbrev weight-start : tie.After-put-number → tie.Start
+weight-start c = c .before .before .before
+
+abbrev at-weight : tie.After-put-set → tie.After-put-number
+at-weight c = c .before .before .before .before
+
+abbrev shore-start : tie.After-put-set → tie.Start
+shore-start c = weight-start (at-weight c)
+
+abbrev at-shore : tie.After-put-byte → tie.After-put-set
+at-shore c = c .before .before .before .before
+
+-- what each call leaves
+weight-put : (c : tie.After-put-number) → Pieces-put (weight-start c) 1 (c .put-number .last .0) (c .put-number .result)
+weight-put c = next (none-put (weight-start c)) (c .put-number .ensures)
+
+shore-put : (c : tie.After-put-set) → Pieces-put (shore-start c) 2 (c .put-set .last .0) (c .put-set .result)
+shore-put c = next (weight-put (at-weight c)) (c .put-set .ensures)
+
+line-put : (c : tie.After-put-byte) → Pieces-put (shore-start (at-shore c)) 3 (c .put-byte .last .0) (c .put-byte .result)
+line-put c = next (shore-put (at-shore c)) (c .put-byte .ensures)
+
 put-number-requires : tie.Need-put-number-requires
-put-number-requires c κs = let s = c .before .before in omega (arith, cut-line-length (s .args .n) (s .args .shore) (s .args .weight), cut-line-short (s .args .n) (s .args .shore) (s .args .weight) (s .pre .0) (s .fits .weight .fits))
+put-number-requires c κs = room (none-put (c .before .before))
 
 put-set-requires : tie.Need-put-set-requires
-put-set-requires c κs = let s = c .before .before .before .before .before .before in (s .pre .0, omega (arith, cut-line-length (s .args .n) (s .args .shore) (s .args .weight), cut-line-short (s .args .n) (s .args .shore) (s .args .weight) (s .pre .0) (s .fits .weight .fits)))
+put-set-requires c κs =
+    let p = c .before .before .before in
+    (weight-start p .pre .0, room (weight-put p))
 
 put-byte-requires : tie.Need-put-byte-requires
-put-byte-requires c κs = let s = c .before .before .before .before .before .before .before .before .before .before in omega (arith, cut-line-length (s .args .n) (s .args .shore) (s .args .weight), cut-line-short (s .args .n) (s .args .shore) (s .args .weight) (s .pre .0) (s .fits .weight .fits))
+put-byte-requires c κs = room-byte (shore-put (c .before .before .before))
 
 same-length : tie.Need-same-length
-same-length c = search needs
+same-length c = same-size (line-put (c .before .before))
 
 returns : tie.Need-returns
-returns c = let s = c .before .before .before .before .before .before .before .before .before .before .before .before .before in
-    let low : s .args .at ≤ length (s .args .out .now) = omega arith in
-    let put = ended (further low (further low (further low (begun {at = s .args .at} {d = s .args .out .now} (cut-line-pieces (s .args .n) (s .args .shore) (s .args .weight))) (c .before .before .before .before .before .before .before .before .before .before .put-number .ensures)) (c .before .before .before .before .before .before .put-set .ensures)) (c .before .before .put-byte .ensures)) in
-    (put, omega (arith, put .ends, cut-line-short (s .args .n) (s .args .shore) (s .args .weight) (s .pre .0) (s .fits .weight .fits)))
+returns c =
+    let p = c .before .before in
+    let put = finish (line-put p) in
+    (put, ends-by put (short (shore-start (at-shore p))))
 
 pub put-cut-line-spec : {M : Type 1} → statement M
 put-cut-line-spec =

@@ -1,29 +1,44 @@
--- `printing::put_cuts` meets its contract: what is put, and the lines of the cuts that are left, make the lines of all. Assumes nothing.
-use mathlib.Core.Path.{_≡_, refl, _∙_, ap}
-use mathlib.Core.List.{[], _∷_}
-use Prim.Native.Nat.{_≤_, _+_, _-_, _*_}
+-- `printing::put_cuts` puts the cuts' lines one by one. The invariant: the lines of the first k cuts are put, each of at most 203 bytes, and the buffer is as long as it was. The measure is how many cuts are left. Assumes nothing.
+use mathlib.Core.Path.{_≡_, ap}
+use mathlib.Core.List.{List}
+use Prim.Native.Nat.{ℕ, _-_, _<_}
 use native.Mathlib.Omega.{arith}
-use lib.ListN.{getD}
-use lib.ListN.{length, drop}
+use lib.ListN.{length, getD}
 use borrow.Author.Needs.{needs}
 use Rattle.hall.specs.Plan.{cut}
-use Rattle.printing.specs.Placed.{Halfway}
-use Rattle.printing.specs.Printed.{each, cut-line}
+use Rattle.printing.specs.Printed.{cut-line}
 use Rattle.printing.specs.Recorded.{cuts-of}
 use Rattle.printing.proofs.Recorded.{cuts-length, cuts-at}
-use Rattle.printing.proofs.Placed.{begun, recast, further, ended}
-use Rattle.printing.proofs.Texts.{each-more, each-end, text-one}
+use Rattle.printing.proofs.Texts.{Each-put, each-none, each-next, each-all}
 use Rattle.printing.proofs.put_cuts.Statement.{statement}
 use Rattle.printing.proofs.put_cuts.Tie as tie
 
 abbrev Inv-loop : tie.InvT-loop
-Inv-loop out₀ at n shores weights end₀ k₀ out end k = (k ≤ length shores) × (length out ≡ length out₀) × (end ≤ at + 203 * k) × Halfway (each (cut-line n) (cuts-of shores weights)) (each (cut-line n) (drop k (cuts-of shores weights)) ∷ []) at out₀ out end
+Inv-loop out₀ at n shores weights end₀ k₀ out end k = Each-put (cut-line n) (cuts-of shores weights) 203 at out₀ out end k
 
 abbrev μ-loop : tie.MeasureT-loop
 μ-loop out₀ at n shores weights end₀ k₀ out end k = length shores - k
 
+module _ (s : tie.Start Inv-loop μ-loop) where
+  abbrev shores : List ℕ
+  shores = s .args .shores .now
+
+  abbrev weights : List ℕ
+  weights = s .args .weights .now
+
+  -- there are as many cuts as shores, and the line of one
+  as-many : length (cuts-of shores weights) ≡ length shores
+  as-many = cuts-length shores weights (s .pre .0 .1)
+
+  line-is : (k : ℕ) → k < length shores → cut-line (s .args .n) (getD (cuts-of shores weights) k (cut 0 0)) ≡ cut-line (s .args .n) (cut (getD shores k 0) (getD weights k 0))
+  line-is k less = ap (cut-line (s .args .n)) (cuts-at shores weights (cut 0 0) k (s .pre .0 .1) less)
+
+-- the start, from the loop's test
+abbrev at-start : tie.At-loop Inv-loop μ-loop → tie.Start Inv-loop μ-loop
+at-start l = l .before .before .before .before
+
 loop-holds : tie.Need-loop-holds Inv-loop μ-loop
-loop-holds c = let a = c .before .before .before .args in (omega arith, refl, omega arith, begun (text-one (each (cut-line (a .n)) (cuts-of (a .shores .now) (a .weights .now)))))
+loop-holds c = each-none
 
 mul-put-cut-line : tie.Need-mul-put-cut-line Inv-loop μ-loop
 mul-put-cut-line c = search needs
@@ -47,20 +62,21 @@ loop-less : tie.Need-loop-less Inv-loop μ-loop
 loop-less c = search needs
 
 loop-again : tie.Need-loop-again Inv-loop μ-loop
-loop-again c = let p = c .before .before in let l = p .before .before .before .before .before in let s = l .before .before .before .before in let a = s .args in
-    let same = cuts-length (a .shores .now) (a .weights .now) (s .pre .0 .1) in
-    let next = each-more (cut 0 0) (cut-line (a .n)) (cuts-of (a .shores .now) (a .weights .now)) (l .loop .k)
-    (cut-line (a .n) (cut (getD (a .shores .now) (l .loop .k) 0) (getD (a .weights .now) (l .loop .k) 0))) (omega arith)
-    (ap (cut-line (a .n)) (cuts-at (a .shores .now) (a .weights .now) (cut 0 0) (l .loop .k) (s .pre .0 .1) (omega arith))) in
-    (omega arith, p .put-cut-line .kept .0 ∙ l .loop .inv .1, omega arith, further (omega arith) (recast next (l .loop .inv .3)) (p .put-cut-line .ensures .0))
+loop-again c =
+    let p = c .before .before in
+    let test = p .before .before .before .before in
+    let l = test .before in
+    let less = test .loop-test .taken in
+    each-next (cut 0 0) (omega arith) (omega (arith, as-many (at-start l), less)) (line-is (at-start l) (l .loop .k) less) (l .loop .inv)
+    (p .put-cut-line .ensures .0) (p .put-cut-line .ensures .1) (p .put-cut-line .kept .0)
 
 same-length : tie.Need-same-length Inv-loop μ-loop
-same-length c = c .before .loop .inv .1
+same-length c = c .before .loop .inv .same-size
 
 returns : tie.Need-returns Inv-loop μ-loop
-returns c = let s = c .before .before .before .before .before in let a = s .args in
-    let same = cuts-length (a .shores .now) (a .weights .now) (s .pre .0 .1) in
-    (ended (recast (each-end (cut-line (a .n)) (cuts-of (a .shores .now) (a .weights .now)) (c .before .loop .k) (omega arith)) (c .before .loop .inv .3)), omega arith)
+returns c =
+    let same = as-many (at-start (c .before)) in
+    (each-all (omega arith) (c .before .loop .inv), omega arith)
 
 pub put-cuts-spec : {M : Type 1} → statement M
 put-cuts-spec =

@@ -1,27 +1,23 @@
--- `printing::put_levels` meets its contract: what is put, and the levels that are left, make the text of all. Assumes nothing.
-use mathlib.Core.Path.{_≡_, refl, _∙_}
-use mathlib.Core.List.{[], _∷_}
-use Prim.Native.Nat.{_≤_, _+_, _-_, _*_}
+-- `printing::put_levels` puts the levels one by one. The invariant: the first k levels are put, each of at most 12 bytes, and the buffer is as long as it was. The measure is how many levels are left. Assumes nothing.
+use Prim.Native.Nat.{_-_}
 use native.Mathlib.Omega.{arith}
 use lib.IntN.{pos}
-use lib.ListN.{length, drop}
+use lib.ListN.{length}
 use borrow.Author.Needs.{needs}
-use Rattle.printing.specs.Placed.{Halfway}
-use Rattle.printing.specs.Printed.{each, level-item}
+use Rattle.printing.specs.Printed.{level-item}
 use Rattle.printing.proofs.Signs.{same-item}
-use Rattle.printing.proofs.Placed.{begun, recast, further, ended}
-use Rattle.printing.proofs.Texts.{each-more, each-end, text-one}
+use Rattle.printing.proofs.Texts.{Each-put, each-none, each-next, each-all}
 use Rattle.printing.proofs.put_levels.Statement.{statement}
 use Rattle.printing.proofs.put_levels.Tie as tie
 
 abbrev Inv-loop : tie.InvT-loop
-Inv-loop out₀ at levels end₀ k₀ out end k = (k ≤ length levels) × (length out ≡ length out₀) × (end ≤ at + 12 * k) × Halfway (each level-item levels) (each level-item (drop k levels) ∷ []) at out₀ out end
+Inv-loop out₀ at levels end₀ k₀ out end k = Each-put level-item levels 12 at out₀ out end k
 
 abbrev μ-loop : tie.MeasureT-loop
 μ-loop out₀ at levels end₀ k₀ out end k = length levels - k
 
 loop-holds : tie.Need-loop-holds Inv-loop μ-loop
-loop-holds c = let a = c .before .args in (omega arith, refl, omega arith, begun (text-one (each level-item (a .levels .now))))
+loop-holds c = each-none
 
 mul-put-level : tie.Need-mul-put-level Inv-loop μ-loop
 mul-put-level c = search needs
@@ -39,19 +35,18 @@ loop-less : tie.Need-loop-less Inv-loop μ-loop
 loop-less c = search needs
 
 loop-again : tie.Need-loop-again Inv-loop μ-loop
-loop-again c = let l = c .before .before .before .before .before .before in let a = l .before .before .args in let p = c .before .before in (
-  omega arith,
-  p .put-level .kept .0 ∙ l .loop .inv .1,
-  omega arith,
-  further (omega arith) (recast (each-more (pos 0) level-item (a .levels .now) (l .loop .k) _ (p .before .before .before .loop-test .taken) (same-item _ (record { sfits = p .before .put-level-arg2 .given }))) (l .loop .inv .3)) (p .put-level .ensures .0),
-)
+loop-again c =
+    let p = c .before .before in
+    let read = p .before in
+    let test = read .before .before in
+    each-next (pos 0) (omega arith) (test .loop-test .taken) (same-item _ (record { sfits = read .put-level-arg2 .given })) (test .before .loop .inv)
+    (p .put-level .ensures .0) (p .put-level .ensures .1) (p .put-level .kept .0)
 
 same-length : tie.Need-same-length Inv-loop μ-loop
-same-length c = c .before .loop .inv .1
+same-length c = c .before .loop .inv .same-size
 
 returns : tie.Need-returns Inv-loop μ-loop
-returns c = let a = c .before .before .before .args in
-    (ended (recast (each-end level-item (a .levels .now) (c .before .loop .k) (c .loop-test .left)) (c .before .loop .inv .3)), omega arith)
+returns c = (each-all (c .loop-test .left) (c .before .loop .inv), omega arith)
 
 pub put-levels-spec : {M : Type 1} → statement M
 put-levels-spec =

@@ -1,27 +1,41 @@
--- `printing::put_rows` meets its contract: what is put, and the lines of the rows that are left, make the lines of all. Assumes nothing.
-use mathlib.Core.Path.{_≡_, refl, _∙_}
-use mathlib.Core.List.{[], _∷_}
-use Prim.Native.Nat.{_≤_, _+_, _-_, _*_}
+-- `printing::put_rows` puts the chosen rows' lines one by one. The invariant: the lines of the first k rows are put, each of at most 30 bytes, and the buffer is as long as it was. The measure is how many rows are left. Assumes nothing.
+use Prim.Native.Nat.{ℕ, _-_, _≤_}
 use native.Mathlib.Omega.{arith}
-use lib.ListN.{length, drop, getD}
+use lib.ListN.{length, getD}
 use borrow.Author.Needs.{needs}
-use Rattle.printing.specs.Placed.{Halfway}
-use Rattle.printing.specs.Printed.{each, row-line}
+use Rattle.hallfile.specs.declared.HallRecord.{HallRecord}
+use Rattle.printing.specs.Printed.{row-line}
 use Rattle.printing.specs.Recorded.{hall-of}
-use Rattle.printing.proofs.Placed.{begun, recast, further, ended}
-use Rattle.printing.proofs.Texts.{each-more, each-end, text-one}
 use Rattle.printing.proofs.Recorded.{row-line-is, choice-at}
+use Rattle.printing.proofs.Texts.{Each-put, each-none, each-next, each-all}
 use Rattle.printing.proofs.put_rows.Statement.{statement}
 use Rattle.printing.proofs.put_rows.Tie as tie
 
 abbrev Inv-loop : tie.InvT-loop
-Inv-loop out₀ at rows hall end₀ k₀ out end k = (k ≤ length rows) × (length out ≡ length out₀) × (end ≤ at + 30 * k) × Halfway (each (row-line (hall-of hall)) rows) (each (row-line (hall-of hall)) (drop k rows) ∷ []) at out₀ out end
+Inv-loop out₀ at rows hall end₀ k₀ out end k = Each-put (row-line (hall-of hall)) rows 30 at out₀ out end k
 
 abbrev μ-loop : tie.MeasureT-loop
 μ-loop out₀ at rows hall end₀ k₀ out end k = length rows - k
 
+-- within the loop: number k is that of a row
+module _ (c : tie.In-loop Inv-loop μ-loop) where
+  abbrev s : tie.Start Inv-loop μ-loop
+  s = c .before .before .before .before
+
+  abbrev hall : HallRecord
+  hall = s .args .t3
+
+  abbrev i : ℕ
+  i = getD (s .args .rows .now) (c .before .loop .k) 0
+
+  is-row : (1 ≤ i) × (i ≤ hall .count)
+  is-row = choice-at hall (s .args .rows .now) (c .before .loop .k) (s .pre .0 .1) (c .loop-test .taken)
+
+  few : hall .count ≤ 256
+  few = s .pre .0 .0
+
 loop-holds : tie.Need-loop-holds Inv-loop μ-loop
-loop-holds c = let a = c .before .before .args in (omega arith, refl, omega arith, begun (text-one (each (row-line (hall-of (a .t3))) (a .rows .now))))
+loop-holds c = each-none
 
 mul-i : tie.Need-mul-i Inv-loop μ-loop
 mul-i c = search needs
@@ -30,27 +44,22 @@ shared-slice-read-i : tie.Need-shared-slice-read-i Inv-loop μ-loop
 shared-slice-read-i c = search needs
 
 cast-place : tie.Need-cast-place Inv-loop μ-loop
-cast-place c = omega (arith, c .shared-slice-known2 .given (c .before .before .loop .k))
+cast-place c = omega (arith, is-row (c .before), few (c .before))
 
 sub-place : tie.Need-sub-place Inv-loop μ-loop
-sub-place c = let l = c .before .before in let s = l .before .before .before in
-    choice-at (s .args .t3) (s .args .rows .now) (l .loop .k) (s .pre .0 .1) (c .before .loop-test .taken) .0
+sub-place c = is-row (c .before) .0
 
 element-copy-out-put-row-line : tie.Need-element-copy-out-put-row-line Inv-loop μ-loop
-element-copy-out-put-row-line c = let l = c .before .before .before in let s = l .before .before .before in
-    omega (arith, choice-at (s .args .t3) (s .args .rows .now) (l .loop .k) (s .pre .0 .1) (c .before .before .loop-test .taken))
+element-copy-out-put-row-line c = omega (arith, is-row (c .before .before), few (c .before .before))
 
 element-copy-out-put-row-line-2 : tie.Need-element-copy-out-put-row-line-2 Inv-loop μ-loop
-element-copy-out-put-row-line-2 c = let l = c .before .before .before .before in let s = l .before .before .before in
-    omega (arith, choice-at (s .args .t3) (s .args .rows .now) (l .loop .k) (s .pre .0 .1) (c .before .before .before .loop-test .taken))
+element-copy-out-put-row-line-2 c = let t = c .before .before .before in omega (arith, is-row t, few t)
 
 mul-put-row-line : tie.Need-mul-put-row-line Inv-loop μ-loop
-mul-put-row-line c = let l = c .before .before .before .before .before in let s = l .before .before .before in
-    omega (arith, choice-at (s .args .t3) (s .args .rows .now) (l .loop .k) (s .pre .0 .1) (c .before .before .before .before .loop-test .taken))
+mul-put-row-line c = let t = c .before .before .before .before in omega (arith, is-row t, few t)
 
 element-copy-out-put-row-line-3 : tie.Need-element-copy-out-put-row-line-3 Inv-loop μ-loop
-element-copy-out-put-row-line-3 c = let l = c .before .before .before .before .before in let s = l .before .before .before in
-    omega (arith, choice-at (s .args .t3) (s .args .rows .now) (l .loop .k) (s .pre .0 .1) (c .before .before .before .before .loop-test .taken))
+element-copy-out-put-row-line-3 c = let t = c .before .before .before .before in omega (arith, is-row t, few t)
 
 put-row-line-requires : tie.Need-put-row-line-requires Inv-loop μ-loop
 put-row-line-requires c κs = search needs
@@ -62,21 +71,18 @@ loop-less : tie.Need-loop-less Inv-loop μ-loop
 loop-less c = search needs
 
 loop-again : tie.Need-loop-again Inv-loop μ-loop
-loop-again c = let p = c .before .before in let l = p .before .before .before .before .before .before .before in let s = l .before .before .before in let a = s .args in
-    let less = p .before .before .before .before .before .before .loop-test .taken in
-    let w = choice-at (a .t3) (a .rows .now) (l .loop .k) (s .pre .0 .1) less in (
-      omega arith,
-      p .put-row-line .kept .0 ∙ l .loop .inv .1,
-      omega arith,
-      further (omega arith) (recast (each-more 0 (row-line (hall-of (a .t3))) (a .rows .now) (l .loop .k) _ less (row-line-is (a .t3) (getD (a .rows .now) (l .loop .k) 0) (w .0) (w .1))) (l .loop .inv .3)) (p .put-row-line .ensures .0),
-    )
+loop-again c =
+    let p = c .before .before in
+    let arg = p .before in
+    let t = arg .before .before .before .before .before in
+    each-next 0 (omega arith) (t .loop-test .taken) (row-line-is (hall t) (i t) (is-row t .0) (is-row t .1)) (t .before .loop .inv)
+    (p .put-row-line .ensures .0) (p .put-row-line .ensures .1) (p .put-row-line .kept .0)
 
 same-length : tie.Need-same-length Inv-loop μ-loop
-same-length c = c .before .loop .inv .1
+same-length c = c .before .loop .inv .same-size
 
 returns : tie.Need-returns Inv-loop μ-loop
-returns c = let a = c .before .before .before .before .args in
-    (ended (recast (each-end (row-line (hall-of (a .t3))) (a .rows .now) (c .before .loop .k) (c .loop-test .left)) (c .before .loop .inv .3)), omega arith)
+returns c = (each-all (c .loop-test .left) (c .before .loop .inv), omega arith)
 
 pub put-rows-spec : {M : Type 1} → statement M
 put-rows-spec =

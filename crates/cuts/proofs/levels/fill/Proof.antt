@@ -1,4 +1,4 @@
--- `levels::fill` meets its contract: the places so far have the levels of their junctions. Assumes nothing.
+-- `levels::fill` puts each junction's level in its place. The invariant: the first k places have the levels of their junctions, the others are as before. The measure is how many junctions are left. Assumes nothing.
 use mathlib.Core.Path.{_≡_, _∙_}
 use mathlib.Core.List.{List}
 use mir.Syntax.{w32}
@@ -19,11 +19,25 @@ Inv-loop n shores weights count levels₀ base k₀ levels k = (k ≤ n) × Leve
 abbrev μ-loop : tie.MeasureT-loop
 μ-loop n shores weights count levels₀ base k₀ levels k = n - k
 
+-- the cuts of the first places
+abbrev cuts-at : tie.Start Inv-loop μ-loop → List Cut
+cuts-at s = cuts-in (s .args .count) 0 (place-of (s .args .shores .now)) (place-of (s .args .weights .now))
+
+-- the places of the code: the sum of junction 1 and the start, from the loop's test; the loop's test, from the sum of junction k + 1
+abbrev at-base : tie.At-loop Inv-loop μ-loop → tie.After-level-sum Inv-loop μ-loop
+at-base l = l .before
+
+abbrev at-start : tie.At-loop Inv-loop μ-loop → tie.Start Inv-loop μ-loop
+at-start l = at-base l .before .before .before
+
+abbrev at-loop : tie.After-level-sum2 Inv-loop μ-loop → tie.At-loop Inv-loop μ-loop
+at-loop c = c .before .before
+
 level-sum-requires : tie.Need-level-sum-requires Inv-loop μ-loop
 level-sum-requires c κs = search needs
 
 loop-holds : tie.Need-loop-holds Inv-loop μ-loop
-loop-holds c = let a = c .before .before .before .args in (omega arith, levelled-none (cuts-in (a .count) 0 (place-of (a .shores .now)) (place-of (a .weights .now))) (a .levels .now))
+loop-holds c = let s = c .before .before .before in (omega arith, levelled-none (cuts-at s) (s .args .levels .now))
 
 add-level-sum : tie.Need-add-level-sum Inv-loop μ-loop
 add-level-sum c = search needs
@@ -32,14 +46,14 @@ level-sum-requires-2 : tie.Need-level-sum-requires-2 Inv-loop μ-loop
 level-sum-requires-2 c κs = search needs
 
 less-requires : tie.Need-less-requires Inv-loop μ-loop
-less-requires c κs = let s = c .before .before .before .before .before .before in let a = s .args in let l = c .before .before .loop in
-    near-fits (cuts-in (a .count) 0 (place-of (a .shores .now)) (place-of (a .weights .now))) (a .n) (l .k) (c .level-sum2 .result) (c .before .before .before .level-sum .result) (s .pre .5) (omega arith) (c .level-sum2 .ensures) (c .before .before .before .level-sum .ensures)
+less-requires c κs = let l = at-loop c in let s = at-start l in
+    near-fits (cuts-at s) (l .loop .k) (c .level-sum2 .ensures) (at-base l .level-sum .ensures) (s .args .n) (s .pre .5) (c .before .loop-test .taken)
 
 mul-t10 : tie.Need-mul-t10 Inv-loop μ-loop
 mul-t10 c = search needs
 
 slice-set-from-levels : tie.Need-slice-set-from-levels Inv-loop μ-loop
-slice-set-from-levels c = omega (arith, c .before .before .before .loop .inv .1 .size)
+slice-set-from-levels c = omega (arith, at-loop (c .before) .loop .inv .1 .size)
 
 add-k : tie.Need-add-k Inv-loop μ-loop
 add-k c = search needs
@@ -48,18 +62,17 @@ loop-less : tie.Need-loop-less Inv-loop μ-loop
 loop-less c = search needs
 
 loop-again : tie.Need-loop-again Inv-loop μ-loop
-loop-again c = let s = c .before .before .before .before .before .before .before in let a = s .args in let l = c .before .before .before .loop in let sum = c .before .level-sum2 in let base = c .before .before .before .before .level-sum in
-    let ks : List Cut = cuts-in (a .count) 0 (place-of (a .shores .now)) (place-of (a .weights .now)) in (
-      omega arith,
-      levelled-more ks (l .k) (a .levels .now) (l .levels) _ (omega arith)
-          (toZ-ofZ w32 (c .less .result) (record { sfits = c .less .ok }) ∙ c .less .ensures ∙ level-is ks (a .n) (l .k) (sum .result) (base .result) (s .pre .5) (omega arith) (sum .ensures) (base .ensures)) (l .inv .1),
-    )
+loop-again c = let sum = c .before in let l = at-loop sum in let s = at-start l in (
+  omega arith,
+  levelled-more (cuts-at s) (l .loop .k) (s .args .levels .now) (l .loop .levels) _ (omega arith)
+      (toZ-ofZ w32 (c .less .result) (record { sfits = c .less .ok }) ∙ c .less .ensures ∙ level-is (cuts-at s) (l .loop .k) (sum .level-sum2 .ensures) (at-base l .level-sum .ensures)) (l .loop .inv .1),
+)
 
 same-length : tie.Need-same-length Inv-loop μ-loop
 same-length c = c .before .loop .inv .1 .size
 
 returns : tie.Need-returns Inv-loop μ-loop
-returns c = let l = c .before .loop in let e : l .k ≡ c .before .before .before .before .before .args .n = omega arith in rw e at (l .inv .1)
+returns c = let l = c .before in let e : l .loop .k ≡ at-start l .args .n = omega arith in rw e at (l .loop .inv .1)
 
 pub fill-spec : {M : Type 1} → statement M
 fill-spec =

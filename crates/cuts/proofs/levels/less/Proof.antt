@@ -1,4 +1,4 @@
--- `levels::less` meets its contract. Assumes nothing.
+-- `levels::less` gives the difference of two numbers that lie less than 2^31 apart: the larger less the smaller fits, and so does its negative. Assumes nothing.
 use Rattle.cuts.proofs.Levelling.{less-pos, less-fits, less-neg}
 use borrow.Author.Needs.{needs}
 use Rattle.cuts.proofs.levels.less.Statement.{statement}

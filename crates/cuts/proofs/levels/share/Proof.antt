@@ -1,4 +1,4 @@
--- `levels::share` meets its contract. Assumes nothing.
+-- `levels::share` gives the weight where the shore holds the junction, and else 0. Assumes nothing.
 use mathlib.Core.Path.{sym, _∙_}
 use native.Mathlib.Omega.{arith}
 use Rattle.laws.proofs.Booleans.{cond-true, cond-false}

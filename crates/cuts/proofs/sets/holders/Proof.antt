@@ -1,5 +1,7 @@
--- `sets::holders` meets its contract: the set so far is gathered from the junctions so far. Assumes nothing.
+-- `sets::holders` gathers the junctions whose set holds junction a. The invariant: the set is gathered from the first k junctions. The measure is how many junctions are left. Assumes nothing.
 use mathlib.Core.Path.{_≡_, refl, sym, ap, _∙_}
+use mathlib.Core.Bool.{Bool}
+use mathlib.Core.List.{List}
 use Prim.Native.Nat.{ℕ, _≤_, _-_, _/_, _%_, _^_}
 use native.Mathlib.Omega.{arith}
 use lib.ListN.{getD}
@@ -11,8 +13,12 @@ use borrow.Author.Needs.{needs}
 use Rattle.cuts.proofs.sets.holders.Statement.{statement}
 use Rattle.cuts.proofs.sets.holders.Tie as tie
 
+-- junction b's set holds junction a
+abbrev holder : (around : List ℕ) → (a b : ℕ) → Bool
+holder around a b = holds (out-of around b) a
+
 abbrev Inv-loop : tie.InvT-loop
-Inv-loop around n a place set₀ k₀ set k = (k ≤ n) × (set ≡ gather k (λ (b : ℕ). holds (out-of around b) a))
+Inv-loop around n a place set₀ k₀ set k = (k ≤ n) × (set ≡ gather k (holder around a))
 
 abbrev μ-loop : tie.MeasureT-loop
 μ-loop around n a place set₀ k₀ set k = n - k
@@ -46,12 +52,13 @@ loop-again : tie.Need-loop-again Inv-loop μ-loop
 unfolding holds
 loop-again c = let l = c .before .before .loop in let a = c .before .before .before .args in (
   omega arith,
-  gather-bit (λ (b : ℕ). holds (out-of (a .around .now) b) (a .a)) (l .k) (l .set) (getD (a .around .now) (l .k) 0 / 2 ^ (a .a - 1) % 2) (omega arith) (omega arith) (l .inv .1)
+  gather-bit (holder (a .around .now) (a .a)) (l .k) (l .set) (getD (a .around .now) (l .k) 0 / 2 ^ (a .a - 1) % 2) (omega arith) (omega arith) (l .inv .1)
       (ap (λ (s : ℕ). holds s (a .a)) (sym (place-next (a .around .now) (l .k)))),
 )
 
 returns : tie.Need-returns Inv-loop μ-loop
-returns c = let l = c .before .loop in let a = c .before .before .args in let e : l .k ≡ a .n = omega arith in l .inv .1 ∙ ap (λ (k : ℕ). gather k (λ (b : ℕ). holds (out-of (a .around .now) b) (a .a))) e
+returns c = let l = c .before .loop in let a = c .before .before .args in let e : l .k ≡ a .n = omega arith in
+    l .inv .1 ∙ ap (λ (k : ℕ). gather k (holder (a .around .now) (a .a))) e
 
 pub holders-spec : {M : Type 1} → statement M
 holders-spec =

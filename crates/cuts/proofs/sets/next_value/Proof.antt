@@ -1,4 +1,4 @@
--- `sets::next_value` meets its contract: the best so far is the next value of the junctions so far. Assumes nothing.
+-- `sets::next_value` finds the next value over `low`. The invariant: the best so far is the next value of the first k junctions. The measure is how many junctions are left. Assumes nothing.
 use mathlib.Core.Path.{_≡_}
 use Prim.Native.Nat.{_≤_, _-_}
 use native.Mathlib.Omega.{arith}
@@ -15,6 +15,10 @@ Inv-loop potential n low best₀ k₀ best k = (k ≤ n) × Next k (out-of poten
 
 abbrev μ-loop : tie.MeasureT-loop
 μ-loop potential n low best₀ k₀ best k = n - k
+
+-- the loop's test, from the turn's end
+abbrev at-loop : tie.After-nearer Inv-loop μ-loop → tie.At-loop Inv-loop μ-loop
+at-loop c = c .before .before .before
 
 loop-holds : tie.Need-loop-holds Inv-loop μ-loop
 loop-holds c = (omega arith, next-none (out-of (c .args .potential .now)) (c .args .low))
@@ -35,7 +39,7 @@ loop-less : tie.Need-loop-less Inv-loop μ-loop
 loop-less c = search needs
 
 loop-again : tie.Need-loop-again Inv-loop μ-loop
-loop-again c = let l = c .before .before .before .loop in let a = c .before .before .before .before .args in
+loop-again c = let l = at-loop c .loop in let a = at-loop c .before .args in
     (omega arith, c .nearer .ensures (out-of (a .potential .now)) (l .k) (place-next (a .potential .now) (l .k)) (l .inv .1))
 
 returns : tie.Need-returns Inv-loop μ-loop

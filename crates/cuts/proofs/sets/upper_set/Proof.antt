@@ -1,5 +1,7 @@
--- `sets::upper_set` meets its contract: the set so far is gathered from the junctions so far. Assumes nothing.
+-- `sets::upper_set` gathers the junctions whose potential is at least the threshold. The invariant: the set is gathered from the first k junctions. The measure is how many junctions are left. Assumes nothing.
 use mathlib.Core.Path.{_≡_, refl, ap, _∙_}
+use mathlib.Core.Bool.{Bool}
+use mathlib.Core.List.{List}
 use Prim.Native.Nat.{ℕ, _≤_, _-_}
 use native.Mathlib.Omega.{arith}
 use lib.Dec.{leb}
@@ -11,11 +13,19 @@ use borrow.Author.Needs.{needs}
 use Rattle.cuts.proofs.sets.upper_set.Statement.{statement}
 use Rattle.cuts.proofs.sets.upper_set.Tie as tie
 
+-- junction j's potential is at least the threshold
+abbrev high : (potential : List ℕ) → (threshold j : ℕ) → Bool
+high potential threshold j = leb threshold (out-of potential j)
+
 abbrev Inv-loop : tie.InvT-loop
-Inv-loop potential n threshold set₀ k₀ set k = (k ≤ n) × (set ≡ gather k (λ (j : ℕ). leb threshold (out-of potential j)))
+Inv-loop potential n threshold set₀ k₀ set k = (k ≤ n) × (set ≡ gather k (high potential threshold))
 
 abbrev μ-loop : tie.MeasureT-loop
 μ-loop potential n threshold set₀ k₀ set k = n - k
+
+-- the loop's test, from the turn's end
+abbrev at-loop : tie.After-extended Inv-loop μ-loop → tie.At-loop Inv-loop μ-loop
+at-loop c = c .before .before .before
 
 loop-holds : tie.Need-loop-holds Inv-loop μ-loop
 unfolding gather
@@ -37,12 +47,13 @@ loop-less : tie.Need-loop-less Inv-loop μ-loop
 loop-less c = search needs
 
 loop-again : tie.Need-loop-again Inv-loop μ-loop
-loop-again c = let l = c .before .before .before .loop in let a = c .before .before .before .before .args in
-    (omega arith, c .extended .ensures (λ (j : ℕ). leb (a .threshold) (out-of (a .potential .now) j)) (l .inv .1) (ap (leb (a .threshold)) (place-next (a .potential .now) (l .k))))
+loop-again c = let l = at-loop c .loop in let a = at-loop c .before .args in
+    (omega arith, c .extended .ensures (high (a .potential .now) (a .threshold)) (l .inv .1) (ap (leb (a .threshold)) (place-next (a .potential .now) (l .k))))
 
 returns : tie.Need-returns Inv-loop μ-loop
 unfolding upper
-returns c = let l = c .before .loop in let a = c .before .before .args in let e : l .k ≡ a .n = omega arith in l .inv .1 ∙ ap (λ (k : ℕ). gather k (λ (j : ℕ). leb (a .threshold) (out-of (a .potential .now) j))) e
+returns c = let l = c .before .loop in let a = c .before .before .args in let e : l .k ≡ a .n = omega arith in
+    l .inv .1 ∙ ap (λ (k : ℕ). gather k (high (a .potential .now) (a .threshold))) e
 
 pub upper-set-spec : {M : Type 1} → statement M
 upper-set-spec =

@@ -1,4 +1,4 @@
--- `sets::within` meets its contract: the places so far have their arcs inside the set. Assumes nothing.
+-- `sets::within` keeps of each junction's arcs those that end in the set. The invariant: the first k places have their arcs inside the set. The measure is how many of the 64 places are left. Assumes nothing.
 use mathlib.Core.Path.{refl}
 use Prim.Native.Nat.{ℕ, _≤_, _-_}
 use native.Mathlib.Omega.{arith}

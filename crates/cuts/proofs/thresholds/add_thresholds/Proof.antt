@@ -1,5 +1,5 @@
--- `thresholds::add_thresholds` meets its contract: the places filled so far are those of all thresholds up to `low`. Assumes nothing.
-use Prim.Native.Nat.{_-_, _^_}
+-- `thresholds::add_thresholds` adds the shores of every upper set of the potential. The invariant: the places filled so far are those of all thresholds up to `low`. The measure is how far `low` is below 2^32: the next value is higher, and no value is over the top. Assumes nothing.
+use Prim.Native.Nat.{ℕ, _-_, _^_, _≤_, _<_}
 use native.Mathlib.Omega.{arith}
 use Rattle.digraph.specs.Adjacency.{out-of}
 use Rattle.cuts.specs.Listed.{Added}
@@ -15,9 +15,53 @@ Inv-loop n links mates potential shores₀ weights₀ low₀ filled₀ shores we
 abbrev μ-loop : tie.MeasureT-loop
 μ-loop n links mates potential shores₀ weights₀ low₀ filled₀ shores weights low filled = 2 ^ 32 - low
 
+-- what the loop goes over
+module _ (s : tie.Start Inv-loop μ-loop) where
+  abbrev n : ℕ
+  n = s .args .n
+
+  abbrev links : ℕ → ℕ
+  links = out-of (s .args .links .now)
+
+  abbrev mates : ℕ → ℕ
+  mates = out-of (s .args .mates .now)
+
+  abbrev potential : ℕ → ℕ
+  potential = out-of (s .args .potential .now)
+
+  -- no value is over the top
+  abbrev top : ℕ
+  top = s .pre .3 .0
+
+-- the places of the code: the loop's start, what was added in a turn and what came before it
+abbrev at-start : tie.At-loop Inv-loop μ-loop → tie.Start Inv-loop μ-loop
+at-start l = l .before .before .before
+
+abbrev at-added : tie.After-slice-known4 Inv-loop μ-loop → tie.After-add-classes Inv-loop μ-loop
+at-added c = c .before .before .before .before
+
+abbrev at-upper : tie.After-add-classes Inv-loop μ-loop → tie.After-upper-set Inv-loop μ-loop
+at-upper c = c .before .before .before
+
+-- within the loop, once the next value is known not to be `low`
+module _ (c : tie.Else1 Inv-loop μ-loop) where
+  abbrev value : tie.After-next-value Inv-loop μ-loop
+  value = c .before
+
+  abbrev l : tie.At-loop Inv-loop μ-loop
+  l = value .before
+
+  abbrev s : tie.Start Inv-loop μ-loop
+  s = at-start l
+
+  higher : l .loop .low < value .next-value .result
+  higher = let ne = c .if1 .left in omega (arith, value .next-value .ensures .from-low)
+
+  not-over : value .next-value .result ≤ top s
+  not-over = next-high (top s) (value .next-value .ensures) higher (s .pre .3 .2)
+
 loop-holds : tie.Need-loop-holds Inv-loop μ-loop
-loop-holds c = let s = c .before .before in let a = s .args in
-    added-none (a .n) (out-of (a .links .now)) (out-of (a .mates .now)) (out-of (a .potential .now)) (a .shores .now) (a .weights .now) (s .pre .3 .3 .listed)
+loop-holds c = let s = c .before .before in added-none (n s) (links s) (mates s) (potential s) (s .pre .3 .3 .listed)
 
 next-value-requires : tie.Need-next-value-requires Inv-loop μ-loop
 next-value-requires c κs = search needs
@@ -29,41 +73,34 @@ same-length-2 : tie.Need-same-length-2 Inv-loop μ-loop
 same-length-2 c = c .before .before .loop .inv .weights-size
 
 returns : tie.Need-returns Inv-loop μ-loop
-returns c = let s = c .before .before .before .before .before in let a = s .args in let l = c .before .before .loop in let v = c .before .next-value in
-    added-all (a .n) (out-of (a .links .now)) (out-of (a .mates .now)) (out-of (a .potential .now)) (a .shores .now) (a .weights .now) (l .low) (v .result) (l .filled) (l .shores) (l .weights)
-    (v .ensures) (c .if1 .taken) (l .inv)
+returns c = let v = c .before in let s = at-start (v .before) in
+    added-all (n s) (links s) (mates s) (potential s) (v .next-value .ensures) (c .if1 .taken) (v .before .loop .inv)
 
 upper-set-requires : tie.Need-upper-set-requires Inv-loop μ-loop
 upper-set-requires c κs = search needs
 
 sub-add-classes : tie.Need-sub-add-classes Inv-loop μ-loop
-sub-add-classes c = c .before .before .next-value .ensures .from-low
+sub-add-classes c = value (c .before) .next-value .ensures .from-low
 
 cast-add-classes : tie.Need-cast-add-classes Inv-loop μ-loop
-cast-add-classes c = let s = c .before .before .before .before .before .before in let a = s .args in let l = c .before .before .before .loop in let v = c .before .before .next-value in let ne = c .before .if1 .left in
-    record { fits = omega (arith, next-high (a .n) (out-of (a .potential .now)) (l .low) (v .result) (s .pre .3 .0) (v .ensures) (omega (arith, v .ensures .from-low)) (s .pre .3 .2), s .pre .3 .1) }
+cast-add-classes c = record { fits = omega (arith, not-over (c .before), s (c .before) .pre .3 .1) }
 
 add-classes-requires : tie.Need-add-classes-requires Inv-loop μ-loop
-add-classes-requires c κs = let s = c .before .before .before .before .before .before .before .before in let a = s .args in let l = c .before .before .before .before .before .loop in let v = c .before .before .before .before .next-value in let u = c .before .before .upper-set in let ne = c .before .before .before .if1 .left in
-    let p = out-of (a .potential .now) in
-    let high = next-high (a .n) p (l .low) (v .result) (s .pre .3 .0) (v .ensures) (omega (arith, v .ensures .from-low)) (s .pre .3 .2) in (
-      s .pre .0,
-      omega (arith, v .ensures .from-low),
-      upper-fits (a .n) p (v .result) (u .result) (u .ensures),
-      s .pre .1,
-      s .pre .2,
-      fits-next (a .n) (out-of (a .links .now)) (out-of (a .mates .now)) p (a .shores .now) (a .weights .now) (l .low) (v .result) (l .filled) (u .result) (l .shores) (l .weights)
-          (v .ensures) (u .ensures) (l .inv) (s .pre .3 .0) high (s .pre .3 .3),
-    )
+add-classes-requires c κs = let u = c .before .before in let e = u .before in let v = value e .next-value in (
+  s e .pre .0,
+  omega (arith, higher e),
+  upper-fits (n (s e)) (potential (s e)) (v .result) (u .upper-set .result) (u .upper-set .ensures),
+  s e .pre .1,
+  s e .pre .2,
+  fits-next (n (s e)) (links (s e)) (mates (s e)) (potential (s e)) (v .ensures) (u .upper-set .ensures) (l e .loop .inv) (top (s e)) (not-over e) (s e .pre .3 .3),
+)
 
 loop-less : tie.Need-loop-less Inv-loop μ-loop
-loop-less c = let s = c .before .before .before .before .before .before .before .before .before .before .before .before .before in let a = s .args in let l = c .before .before .before .before .before .before .before .before .before .before .loop in let v = c .before .before .before .before .before .before .before .before .before .next-value in let ne = c .before .before .before .before .before .before .before .before .if1 .left in
-    omega (arith, v .ensures .from-low, next-high (a .n) (out-of (a .potential .now)) (l .low) (v .result) (s .pre .3 .0) (v .ensures) (omega (arith, v .ensures .from-low)) (s .pre .3 .2), s .pre .3 .1)
+loop-less c = let e = at-upper (at-added c) .before in omega (arith, higher e, not-over e, s e .pre .3 .1)
 
 loop-again : tie.Need-loop-again Inv-loop μ-loop
-loop-again c = let s = c .before .before .before .before .before .before .before .before .before .before .before .before .before in let a = s .args in let l = c .before .before .before .before .before .before .before .before .before .before .loop in let v = c .before .before .before .before .before .before .before .before .before .next-value in let u = c .before .before .before .before .before .before .before .upper-set in let d = c .before .before .before .before .add-classes in
-    added-next (a .n) (out-of (a .links .now)) (out-of (a .mates .now)) (out-of (a .potential .now)) (a .shores .now) (a .weights .now) (l .low) (v .result) (l .filled) (u .result) (l .shores) (l .weights)
-    (v .ensures) (u .ensures) (l .inv) (d .result) (d .last .1 .1 .1 .1 .1 .0) (d .last .1 .1 .1 .1 .1 .1 .0) (d .ensures)
+loop-again c = let d = at-added c in let u = at-upper d in let e = u .before in
+    added-next (n (s e)) (links (s e)) (mates (s e)) (potential (s e)) (value e .next-value .ensures) (u .upper-set .ensures) (l e .loop .inv) (d .add-classes .ensures)
 
 pub add-thresholds-spec : {M : Type 1} → statement M
 add-thresholds-spec =
