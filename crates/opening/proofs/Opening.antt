@@ -62,6 +62,9 @@ module _ (bs c : List ℕ) (r : Opened) (o : Opening bs c r) (none : Bool) (said
     pub passed : eqb (choice-refusal bs c .number) 0 ≡ true
     passed = is-fine (r .refusal) (choice-refusal bs c) none (o .refusal) said t
 
+    pub unrefused : choice-refusal bs c ≡ refusal 0 0
+    unrefused = none-refused bs c (hall-fine bs c passed) (list-chosen bs c passed)
+
     pub ranged : Ranged (hall-in bs)
     ranged = accepted.ranged bs (hall-fine bs c passed)
 

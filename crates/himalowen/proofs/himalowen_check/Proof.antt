@@ -1,4 +1,4 @@
--- `himalowen::himalowen_check` meets its contract. Assumes nothing.
+-- `himalowen::himalowen_check` meets its contract: the check's reply, place by place. Assumes nothing.
 use Rattle.himalowen.proofs.Replies.{check-left}
 use borrow.Author.Needs.{needs}
 use Rattle.himalowen.proofs.himalowen_check.Statement.{statement}

@@ -1,8 +1,12 @@
--- `himalowen::himalowen_plan` meets its contract. Assumes nothing.
+-- `himalowen::himalowen_plan` meets its contract: the core's reply, place by place. Assumes nothing.
 use Rattle.himalowen.proofs.Replies.{plan-left}
 use borrow.Author.Needs.{needs}
 use Rattle.himalowen.proofs.himalowen_plan.Statement.{statement}
 use Rattle.himalowen.proofs.himalowen_plan.Tie as tie
+
+-- the core has planned, and the lent lists are back
+abbrev at-core : tie.After-planned-places → tie.After-plan-core
+at-core c = c .before .before .before .before .before .before .before .before
 
 plan-core-requires : tie.Need-plan-core-requires
 plan-core-requires c κs = search needs
@@ -26,9 +30,7 @@ same-length-4 : tie.Need-same-length-4
 same-length-4 c = search needs
 
 returns : tie.Need-returns
-returns c =
-    let planned = c .before .before .before .before .before .before .before .before .before .plan-core in
-    plan-left _ _ _ _ _ _ _ _ _ _ _ _ (planned .ensures) (c .before .planned-places .ensures) (c .number-of .ensures)
+returns c = plan-left _ _ _ _ _ _ _ _ _ _ _ _ (at-core (c .before) .plan-core .ensures) (c .before .planned-places .ensures) (c .number-of .ensures)
 
 pub himalowen-plan-spec : {M : Type 1} → statement M
 himalowen-plan-spec =

@@ -1,4 +1,4 @@
--- `himalowen::himalowen_tight` meets its contract. Assumes nothing.
+-- `himalowen::himalowen_tight` meets its contract: the neighbourhood's reply, place by place. Assumes nothing.
 use Rattle.himalowen.proofs.Replies.{tight-left}
 use borrow.Author.Needs.{needs}
 use Rattle.himalowen.proofs.himalowen_tight.Statement.{statement}

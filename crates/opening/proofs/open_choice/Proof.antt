@@ -1,4 +1,4 @@
--- `opening::open_choice` meets its contract. Assumes nothing.
+-- `opening::open_choice` meets its contract: the hall's refusal, then 10 for a list that is no choice, else the record and the flags. Assumes nothing.
 use mathlib.Core.Path.{_≡_, sym, ap, _∙_}
 use mathlib.Core.Bool.{true}
 use mathlib.Core.List.{List}
@@ -20,47 +20,50 @@ use Rattle.hallfile.proofs.Accepted as accepted
 use borrow.Author.Needs.{needs}
 use Rattle.opening.proofs.open_choice.Statement.{statement}
 use Rattle.opening.proofs.open_choice.Tie as tie
-use Rattle.opening.proofs.open_choice.Reads as reads
-use Rattle.opening.proofs.open_choice.Lts as lts
-use Rattle.choice.proofs.ascends.Reads as ascends-reads
-use Rattle.choice.proofs.flags.Reads as flags-reads
-use Rattle.refusals.proofs.Kind.is_none.Reads as is-none-reads
-use Rattle.hallfile.proofs.read_hall.Reads as read-hall-reads
 
-abbrev Read : Type 0
-Read =
-    lts.Else1
-    (read-hall-reads.Asked, read-hall-reads.Learnt, is-none-reads.Asked, is-none-reads.Learnt, ascends-reads.Asked, ascends-reads.Learnt, flags-reads.Asked, flags-reads.Learnt)
-    reads.Pre reads.Post
+-- once the hall is read and the refusal is tested
+module _ (c : tie.After-is-none) where
+  abbrev at-reading : tie.After-read-hall
+  at-reading = c .before .before
 
--- where the hall is read
-module _ (e : Read) where
+  abbrev at-start : tie.Start
+  at-start = at-reading .before .before .before
+
   abbrev file : List ℕ
-  file = e .before .before .before .before .before .before .args .file .now
+  file = at-start .args .file .now
 
   abbrev numbers : List ℕ
-  numbers = e .before .before .before .before .before .before .args .choice .now
+  numbers = at-start .args .choice .now
+
+-- where there is no refusal
+module _ (e : tie.Else1) where
+  abbrev tested : tie.After-is-none
+  tested = e .before
+
+  abbrev bytes : List ℕ
+  bytes = file tested
+
+  abbrev choice : List ℕ
+  choice = numbers tested
 
   abbrev hall-read : HallRecord
-  hall-read = e .before .before .before .read-hall .result .hall
+  hall-read = at-reading tested .read-hall .result .hall
 
-  fine : eqb (hall-refusal file .number) 0 ≡ true
-  fine =
-      is-fine (e .before .before .before .read-hall .result .refusal) (hall-refusal file) (e .before .is-none .result) (e .before .before .before .read-hall .ensures .refusal)
-      (e .before .is-none .ensures) (e .if1 .left)
+  fine : eqb (hall-refusal bytes .number) 0 ≡ true
+  fine = is-fine (at-reading tested .read-hall .result .refusal) (hall-refusal bytes) (tested .is-none .result) (at-reading tested .read-hall .ensures .refusal) (tested .is-none .ensures) (e .if1 .left)
 
-  is-record : hall-read ≡ record-of (hall-in file)
-  is-record = reply-record (hall-refusal file) (hall-in file) (e .before .before .before .read-hall .result) (e .before .before .before .read-hall .ensures) fine
+  is-record : hall-read ≡ record-of (hall-in bytes)
+  is-record = reply-record (hall-refusal bytes) (hall-in bytes) (at-reading tested .read-hall .result) (at-reading tested .read-hall .ensures) fine
 
-  columns : Columns (hall-in file) (hall-read .n) (hall-read .count) (hall-read .tails) (hall-read .heads)
-  columns = accepted.columns file fine hall-read is-record
+  columns : Columns (hall-in bytes) (hall-read .n) (hall-read .count) (hall-read .tails) (hall-read .heads)
+  columns = accepted.columns bytes fine hall-read is-record
 
   ends : Ends (hall-read .n) (hall-read .count) (hall-read .tails) (hall-read .heads)
-  ends = accepted.ends file fine hall-read is-record
+  ends = accepted.ends bytes fine hall-read is-record
 
-  as-choice : is-choice (hall-in file) numbers ≡ ascends-from 1 (hall-read .count) numbers
+  as-choice : is-choice (hall-in bytes) choice ≡ ascends-from 1 (hall-read .count) choice
   unfolding is-choice
-  as-choice = ap (λ (m : ℕ). ascends-from 1 m numbers) (columns .rows)
+  as-choice = ap (λ (m : ℕ). ascends-from 1 m choice) (columns .rows)
 
 read-hall-requires : tie.Need-read-hall-requires
 read-hall-requires c κs = search needs
@@ -69,9 +72,12 @@ is-none-requires : tie.Need-is-none-requires
 is-none-requires c κs = search needs
 
 returns : tie.Need-returns
-returns c = let got = c .before .before .before .read-hall in let none = c .before .is-none in let a = c .before .before .before .before .before .before .args in let bs = a .file .now in
-    let n = is-refused (got .result .refusal) (hall-refusal bs) (none .result) (got .ensures .refusal) (none .ensures) (c .if1 .taken) in
-    opening-refused bs (a .choice .now) _ (got .ensures .refusal ∙ sym (hall-refused bs (a .choice .now) n)) (ap (λ (f : Refusal). eqb (f .number) 0) (hall-refused bs (a .choice .now) n) ∙ n)
+returns c =
+    let t = c .before in
+    let got = at-reading t .read-hall in
+    let n = is-refused (got .result .refusal) (hall-refusal (file t)) (t .is-none .result) (got .ensures .refusal) (t .is-none .ensures) (c .if1 .taken) in
+    let h = hall-refused (file t) (numbers t) n in
+    opening-refused (file t) (numbers t) _ (got .ensures .refusal ∙ sym h) (ap (λ (f : Refusal). eqb (f .number) 0) h ∙ n)
 
 cast-ascends : tie.Need-cast-ascends
 cast-ascends c = omega (arith, ends (c .before) .few)
@@ -82,18 +88,18 @@ ascends-requires c κs = ends (c .before) .few
 returns-2 : tie.Need-returns-2
 unfolding refusal-of refusal
 returns-2 c = let e = c .before .before .before in let tried = c .before .ascends in
-    let q = list-refused (file e) (numbers e) (fine e) (as-choice e ∙ sym (tried .ensures) ∙ not-true (tried .result) (c .if2 .taken)) in
-    opening-refused (file e) (numbers e) _ (sym q) (ap (λ (f : Refusal). eqb (f .number) 0) q)
+    let q = list-refused (bytes e) (choice e) (fine e) (as-choice e ∙ sym (tried .ensures) ∙ not-true (tried .result) (c .if2 .taken)) in
+    opening-refused (bytes e) (choice e) _ (sym q) (ap (λ (f : Refusal). eqb (f .number) 0) q)
 
 flags-requires : tie.Need-flags-requires
 flags-requires c κs = let e = c .before .before .before in let tried = c .before .ascends in
-    ascends-wider 1 (hall-read e .count) 256 (numbers e) (ends e .few) (sym (tried .ensures) ∙ not-false (tried .result) (c .if2 .left))
+    ascends-wider 1 (hall-read e .count) 256 (choice e) (ends e .few) (sym (tried .ensures) ∙ not-false (tried .result) (c .if2 .left))
 
 returns-3 : tie.Need-returns-3
 unfolding refusal-of
 returns-3 c = let e = c .before .before .before .before in let tried = c .before .before .ascends in
-    let q = none-refused (file e) (numbers e) (fine e) (as-choice e ∙ sym (tried .ensures) ∙ not-false (tried .result) (c .before .if2 .left)) in
-    record { refusal = sym q; hall = λ z. is-record e; flags = λ z i l u. row-flags (c .flags .result) (numbers e) 256 (omega arith) (c .flags .ensures .1) i l (omega (arith, columns e .rows, ends e .few)) }
+    let q = none-refused (bytes e) (choice e) (fine e) (as-choice e ∙ sym (tried .ensures) ∙ not-false (tried .result) (c .before .if2 .left)) in
+    record { refusal = sym q; hall = λ z. is-record e; flags = λ z i l u. row-flags (c .flags .result) (choice e) 256 (omega arith) (c .flags .ensures .1) i l (omega (arith, columns e .rows, ends e .few)) }
 
 pub open-choice-spec : {M : Type 1} → statement M
 open-choice-spec =

@@ -1,10 +1,17 @@
--- `planning::plan_outline` meets its contract. Assumes nothing.
+-- `planning::plan_outline` meets its contract: a plan into two arrays of its own, or refusal 1 where the list of cuts is too short. Assumes nothing.
 use mathlib.Core.Path.{refl}
 use native.Mathlib.Omega.{arith}
 use borrow.Author.Needs.{needs}
 use Rattle.planning.proofs.Lent.{short-outlined, made-outlined}
 use Rattle.planning.proofs.plan_outline.Statement.{statement}
 use Rattle.planning.proofs.plan_outline.Tie as tie
+
+-- the places: the core has planned, and the lent lists are back
+abbrev at-core : tie.After-levels → tie.After-plan-core
+at-core c = c .before .before .before .before .before
+
+abbrev at-start : tie.After-plan-core → tie.Start
+at-start c = let long = c .before .before .before .before in long .before .before .before .before
 
 refused-requires : tie.Need-refused-requires
 refused-requires c κs = search needs
@@ -34,9 +41,9 @@ same-length-2 c = search needs
 
 returns-2 : tie.Need-returns-2
 returns-2 c =
-    let s = c .before .before .before .before .before in
-    let a = s .before .before .before .before .before .before .before .before .args in
-    made-outlined (a .file .now) (a .rows .now) (a .levels .now) _ _ (s .plan-core .result) _ _ _ _ (a .room) refl refl (search needs) (omega arith) (s .plan-core .ensures)
+    let p = at-core c in
+    let a = at-start p .args in
+    made-outlined (a .file .now) (a .rows .now) (a .levels .now) _ _ (p .plan-core .result) _ _ _ _ (a .room) refl refl (search needs) (omega arith) (p .plan-core .ensures)
 
 pub plan-outline-spec : {M : Type 1} → statement M
 plan-outline-spec =
