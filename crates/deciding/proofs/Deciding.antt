@@ -2,7 +2,7 @@
 use mathlib.Core.Path.{_≡_, refl, sym, _∙_}
 use mathlib.Core.Bool.{Bool, true, false}
 use mathlib.Core.List.{List}
-use Prim.Native.Nat.{ℕ, suc, _+_, _*_, _≤_, _<_}
+use Prim.Native.Nat.{ℕ, suc, _+_, _≤_, _<_}
 use native.Mathlib.Omega.{arith}
 use borrow.Author.Tests.{le-leb, leb-true, lt-leb}
 use Rattle.junctions.specs.Sets.{holds}
@@ -11,10 +11,10 @@ use Rattle.hall.specs.Hall.{Hall, row, count}
 use Rattle.hall.specs.Plan.{First}
 use Rattle.dicuts.specs.Shores.{Ranged, once}
 use Rattle.joining.proofs.Joining.{joining-mono}
-use Rattle.potentials.specs.Potential.{Under, Paid, Parted, cost}
+use Rattle.potentials.specs.Potential.{Under, Paid, cost}
 use Rattle.potentials.specs.ZeroGraph.{zero-arcs, raised, Raisable}
 use Rattle.potentials.specs.Flip.{Leg, Flip, flipped, Route}
-use Rattle.potentials.specs.Repair.{Repairable, Repaired}
+use Rattle.potentials.specs.Repair.{Repaired}
 use Rattle.potentials.specs.Compare.{Priced, Agree}
 use Rattle.potentials.proofs.Compare.{compare-cost, cheapest}
 use Rattle.potentials.proofs.Priced.{priced-under, raised-priced, flip-priced}
@@ -184,13 +184,3 @@ deciding-same h rg c d costs p q levels F G rows k high so-far =
 -- when all rows are decided, for ranked costs, the first choice is found
 pub deciding-end : (h : Hall) → Ranged h → count h ≤ 256 → (p : ℕ → ℕ) (F : ℕ → Bool) → Deciding h (ranked h) (count h) p F → First h (listed h F)
 deciding-end h rg few p F done = decided-first h rg few F (done .joining) (done .least) (done .decided)
-
--- a potential for the prices, scaled, fits the ranked costs
-pub ranked-start : (h : Hall) (p : ℕ → ℕ) (F : ℕ → Bool) → Repaired h (λ i. row h i .price) p F → Repairable h (ranked h) (λ j. 257 * p j) F
-unfolding Under Parted ranked
-ranked-start h p F done =
-    record {
-      joining = done .joining;
-      under = λ i l u. omega (arith, done .under i l u);
-      parted = λ v u lv kv lu ku less. done .parted v u lv kv lu ku (omega arith);
-    }

@@ -59,7 +59,7 @@ pub fn lone(there: bool, place: usize) -> u64
     requires { ⌜ place < 64 ⌝ }
     ensures { λ r. ⌜ ((i : ℕ) → 1 ≤ i → holds r i ≡ (there && eqb i (suc place))) ⌝ }
 {
-    if there { 1 << place } else { 0 }
+    (there as u64) << place
 }
 
 // The set holds the junction at a place.

@@ -1,28 +1,27 @@
 -- What planning starts from, and what its first stage leaves. Assumes nothing: these are definitions.
-use mathlib.Core.Path.{_≡_}
 use mathlib.Core.Bool.{Bool}
 use mathlib.Core.List.{List}
-use Prim.Native.Nat.{ℕ, _≤_}
-use Rattle.hall.specs.Hall.{Hall, row, count}
-use Rattle.dicuts.specs.Shores.{Ranged, Linked}
+use Prim.Native.Nat.{ℕ, _^_, _≤_, _<_}
+use lib.ListN.{getD}
+use Rattle.hall.specs.Hall.{Hall}
+use Rattle.dicuts.specs.Shores.{Ranged, once, Joining}
+use Rattle.potentials.specs.Potential.{cost}
 use Rattle.potentials.specs.Repair.{Repaired}
 use Rattle.columns.specs.Columns.{at, flagged, Columns, Neighbourhoods}
 use Rattle.repair.specs.declared.State.{State}
 
--- the columns hold an accepted hall
-pub record Ready (h : Hall) (n m : ℕ) (tails heads prices : List ℕ) : Type 0 where
+-- every cost is below 2 to the power 53: those of 256 rows together are below 2 to the power 61
+abbrev pub Modest : (costs : List ℕ) → Type 0
+Modest costs = (k : ℕ) → getD costs k 0 < 2 ^ 53
+
+-- the columns hold a hall that the rows join
+pub record Ready (h : Hall) (n m : ℕ) (tails heads : List ℕ) (rows : List Bool) : Type 0 where
   pub columns : Columns h n m tails heads
   pub ranged : Ranged h
-  pub linked : Linked h
-  pub price : (i : ℕ) → 1 ≤ i → i ≤ count h → at prices i ≡ row h i .price
-  pub dear : (i : ℕ) → 1 ≤ i → i ≤ count h → row h i .price ≤ 1000000
+  pub joining : Joining h (once (flagged rows))
 
--- A CHOICE OF LEAST TOTAL: P1, P2 and P3 hold for the prices, and no level is over the largest total
-pub record Settled (h : Hall) (potential : List ℕ) (chosen : List Bool) : Type 0 where
-  pub repaired : Repaired h (λ i. row h i .price) (at potential) (flagged chosen)
-  pub low : (j : ℕ) → 1 ≤ j → j ≤ 64 → at potential j ≤ 256000000
-
--- the same with the neighbourhoods of the choice
-pub record Cheapest (h : Hall) (s : State) : Type 0 where
-  pub settled : Settled h (s .potential) (s .chosen)
+-- A CHOICE OF LEAST COST with its neighbourhoods: P1, P2 and P3 hold, and no level is over what the rows at the start cost
+pub record Cheapest (h : Hall) (costs : List ℕ) (rows : List Bool) (s : State) : Type 0 where
+  pub repaired : Repaired h (at costs) (at (s .potential)) (flagged (s .chosen))
   pub around : Neighbourhoods h (flagged (s .chosen)) (s .around)
+  pub low : (j : ℕ) → 1 ≤ j → j ≤ 64 → at (s .potential) j ≤ cost h (at costs) (flagged rows)

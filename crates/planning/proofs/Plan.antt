@@ -31,14 +31,14 @@ use Rattle.hallfile.specs.Record.{record-of}
 use Rattle.hallfile.proofs.Records.{record-prices}
 use Rattle.ledger.proofs.Choices.{flagged-total}
 use Rattle.repair.specs.declared.State.{State}
-use Rattle.plan.specs.Ready.{Ready, Cheapest}
+use Rattle.plan.proofs.Prices.{Accepted, Least}
 use Rattle.planning.specs.declared.Planned.{Planned}
 use Rattle.planning.specs.Plan.{unplanned, plan-refusal, in-front, Filled, Turned, Plan-as, Plan-says}
 use Rattle.planning.proofs.Fronts.{cuts-count, shores-front, weights-front, levels-front}
 use Rattle.hallfile.proofs.Accepted as accepted
 
 module _ (bs : List ℕ) (fine : eqb (hall-refusal bs .number) 0 ≡ true) (x : HallRecord) (is : x ≡ record-of (hall-in bs)) where
-  pub ready : Ready (hall-in bs) (x .n) (x .count) (x .tails) (x .heads) (x .prices)
+  pub ready : Accepted (hall-in bs) (x .n) (x .count) (x .tails) (x .heads) (x .prices)
   ready =
       record {
         columns = accepted.columns bs fine x is;
@@ -54,10 +54,10 @@ unfolding Arcs
 every-flagged h sets few is-arcs y l u =
     is-arcs y l u ∙ arcs-ext h (flagged (replicate 256 true)) (λ i. true) (λ i p q. getD-replicate 256 (i - 1) true false (omega arith)) y
 
-module _ (h : Hall) (n m : ℕ) (tails heads prices : List ℕ) (rd : Ready h n m tails heads prices) (ends : Ends n m tails heads) (s : State) (least : Cheapest h s) where
+module _ (h : Hall) (n m : ℕ) (tails heads prices : List ℕ) (rd : Accepted h n m tails heads prices) (ends : Ends n m tails heads) (s : State) (least : Least h s) where
   pub under : Under n (at (s .potential)) highest
   unfolding Under
-  under j l u = least .settled .low j l (omega (arith, ends .size))
+  under j l u = least .low j l (omega (arith, ends .size))
 
   pub beside-rows : (links : List ℕ) → Arcs h (λ i. true) links → Beside-rows h (flagged (s .chosen)) n links (s .around) (s .potential)
   beside-rows links is-links =
@@ -65,8 +65,8 @@ module _ (h : Hall) (n m : ℕ) (tails heads prices : List ℕ) (rd : Ready h n 
         junctions = rd .columns .junctions;
         ranged = rd .ranged;
         linked = rd .linked;
-        joining = least .settled .repaired .joining;
-        parted = least .settled .repaired .parted;
+        joining = least .repaired .joining;
+        parted = least .repaired .parted;
         links-are = is-links;
         around-are = least .around;
         low = under;
@@ -88,7 +88,7 @@ module _ (h : Hall) (n m : ℕ) (tails heads prices : List ℕ) (rd : Ready h n 
         c,
         ks,
         is-first,
-        beside-first h (rd .ranged) (rd .linked) c is-first (at (s .potential)) (flagged (s .chosen)) (least .settled .repaired) highest (λ j l u. least .settled .low j l (omega (arith, ends .size))),
+        beside-first h (rd .ranged) (rd .linked) c is-first (at (s .potential)) (flagged (s .chosen)) (least .repaired) highest (λ j l u. least .low j l (omega (arith, ends .size))),
         (
           refl,
           rows-are .1,

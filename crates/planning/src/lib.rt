@@ -61,7 +61,8 @@ fn plan_hall(
 {
     let every = [true; 256];
     let links = adjacency::of_rows(hall.n, hall.count, &hall.tails, &hall.heads, &every);
-    let least = plan::cheapest(hall.n, hall.count, &hall.tails, &hall.heads, &hall.prices);
+    let prices = ledger::costs::price_costs(hall.count, &hall.prices);
+    let least = plan::cheapest(hall.n, hall.count, &hall.tails, &hall.heads, &prices, every);
     let cuts = cuts::fill(
         hall.n,
         &links,
@@ -72,16 +73,17 @@ fn plan_hall(
         levels,
     );
     let chosen = least.chosen;
-    let potential = least.potential;
     let around = least.around;
+    let costs = ledger::costs::ranked_costs(hall.count, &hall.prices);
+    let scaled = ledger::costs::scaled(&least.potential);
     let first = plan::first_choice(
         hall.n,
         hall.count,
         &hall.tails,
         &hall.heads,
-        &hall.prices,
+        &costs,
         chosen,
-        potential,
+        scaled,
         around,
     );
     let count = ledger::listing::list_rows(hall.count, &first, rows);

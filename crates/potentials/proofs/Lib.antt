@@ -7,3 +7,4 @@ pub mod Repair
 pub mod Compare
 pub mod Priced
 pub mod Same
+pub mod Starts

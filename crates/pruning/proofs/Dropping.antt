@@ -1,4 +1,4 @@
--- The turns of the start: a row whose tail is reached from its head over arcs of the other rows may be dropped; and all rows join. Assumes nothing.
+-- The turns of the start: a row whose tail is reached from its head over arcs of the other rows may be dropped. Assumes nothing.
 use mathlib.Core.Bool.{Bool, true, false, _&&_, not}
 use mathlib.Core.List.{List, [], _∷_}
 use mathlib.Core.Logic.{_⊎_, inl, inr, ⊎-elim}
@@ -23,35 +23,36 @@ use Rattle.digraph.specs.Closure.{closure}
 use Rattle.digraph.proofs.Closure.{closure-lt, closure-reach}
 use Rattle.hall.specs.Hall.{Hall, row, count}
 use Rattle.dicuts.specs.Arcs.{arc, arcs}
-use Rattle.dicuts.specs.Shores.{Ranged, Linked, once, Joining}
-use Rattle.joining.proofs.Joining.{joining-mono, linked-joining}
+use Rattle.dicuts.specs.Shores.{Ranged, once, Joining}
+use Rattle.joining.proofs.Joining.{joining-mono}
 use Rattle.neighbours.specs.Removal.{without, Spared}
 use Rattle.neighbours.proofs.Removal.{drop-joins}
 use Rattle.columns.specs.Columns.{at, flagged, Ends, Columns, Arcs}
 use Rattle.columns.proofs.Places.{place-tail, place-head}
 use Rattle.adjacency.proofs.Arcs.{arcs-ext}
 use Rattle.pruning.specs.Backed.{Backed, Under}
+use Rattle.pruning.specs.Start.{Among}
 
 -- the ends of a row are junctions 1 to 64
 pub ends-fit : (n m : ℕ) (ts hs : List ℕ) → Ends n m ts hs → (k : ℕ) → k < m → (1 ≤ getD ts k 0) × (getD ts k 0 ≤ 64) × (1 ≤ getD hs k 0) × (getD hs k 0 ≤ 64)
 ends-fit n m ts hs ends k l =
     (ends .tail-low k l, omega (arith, ends .tail-high k l, ends .size), ends .head-low k l, omega (arith, ends .head-high k l, ends .size))
 
--- one more flag is set
-pub set-first : (fs : List Bool) (k : ℕ) → k < length fs → ((j : ℕ) → j < k → getD fs j false ≡ true) → (j : ℕ) → j < k + 1 → getD (set fs k true) j false ≡ true
-set-first fs k long so-far j l =
-    by-bool (eqb j k)
-    (λ e. let here : j ≡ k = eqb-true j k e in rw here (getD-set-same fs k true false long))
-    (λ e. let there : j ≡ k → ⊥ = eqb-false j k e in getD-set-other fs k j true false there ∙ so-far j (omega arith))
-
--- flags of all rows are a joining set
-pub first-joins : (h : Hall) → Linked h → (fs : List Bool) → ((k : ℕ) → k < count h → getD fs k false ≡ true) → Joining h (once (flagged fs))
-first-joins h linked fs all = joining-mono h (λ i. true) (flagged fs) (λ i l u e. all (i - 1) (omega arith)) (linked-joining h linked)
-
 set-false : (fs : List Bool) (k : ℕ) → getD (set fs k false) k false ≡ false
 set-false [] k = refl
 set-false (f ∷ fs) zero = refl
 set-false (f ∷ fs) (suc k) = set-false fs k
+
+-- flags without one of them are among what they were among
+pub among-without : (fs gs : List Bool) (k : ℕ) → Among fs gs → Among (set fs k false) gs
+among-without fs gs k inside i e =
+    by-bool (eqb i k)
+    (λ q. let here : i ≡ k = eqb-true i k q in clash e (rw here (set-false fs k)))
+    (λ q. inside i (sym (getD-set-other fs k i false false (eqb-false i k q)) ∙ e))
+
+-- a flag put back
+pub among-again : (fs gs : List Bool) (k : ℕ) → Among fs gs → Among (set (set fs k false) k (getD fs k false)) gs
+among-again fs gs k inside = rw (set-set fs k false (getD fs k false), set-getD fs k false) inside
 
 -- more rows make more arcs
 arc-mono : (h : Hall) (E F : ℕ → Bool) → ((i : ℕ) → 1 ≤ i → i ≤ count h → E i ≡ true → F i ≡ true) → (x y : ℕ) → arc h E x y ≡ true → arc h F x y ≡ true
@@ -247,10 +248,9 @@ cleared found tail y small low e =
 abbrev pub Thinned : Hall → (fs : List Bool) → (sets : List ℕ) → Type 0
 Thinned h fs sets = Joining h (once (flagged fs)) × Under h (flagged fs) sets
 
-pub thinned-all : (h : Hall) → Linked h → (fs : List Bool) → ((k : ℕ) → k < count h → getD fs k false ≡ true) → (sets : List ℕ) → Arcs h (flagged fs) sets → Thinned h fs sets
+pub thinned-start : (h : Hall) (fs : List Bool) (sets : List ℕ) → Joining h (once (flagged fs)) → Arcs h (flagged fs) sets → Thinned h fs sets
 unfolding Arcs Under Within
-thinned-all h linked fs all sets is =
-    (first-joins h linked fs all, λ x l u. subst (λ (z : ℕ). Within (at sets x) z) (is x l u) (λ y m e. e))
+thinned-start h fs sets joins is = (joins, λ x l u. subst (λ (z : ℕ). Within (at sets x) z) (is x l u) (λ y m e. e))
 
 -- one turn: row k, its ends at places p and q, is dropped, or gets its arc back
 module _ (fs : List Bool) (k : ℕ) (h : Hall) (rg : Ranged h) (n m : ℕ) (ts hs : List ℕ) (few : n ≤ 64) (cols : Columns h n m ts hs) (less : k < m)

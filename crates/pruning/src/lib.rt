@@ -1,32 +1,18 @@
-// A joining choice to start from: all rows, then each row is dropped, dearest first, if the others still join.
+// A joining choice to start from: of rows that join each is dropped, dearest first, if the others still join.
 use junctions::place;
 ghost use mathlib.Core.Path.{_≡_};
-ghost use mathlib.Core.Bool.{true, false};
+ghost use mathlib.Core.Bool.{true};
 ghost use Prim.Native.Nat.{ℕ, suc, _≤_, _<_};
-ghost use lib.ListN.{getD};
 ghost use Rattle.junctions.specs.Sets.{holds};
 ghost use Rattle.digraph.specs.Adjacency.{out-of};
 ghost use Rattle.digraph.specs.Reach.{Closed};
 ghost use Rattle.hall.specs.Hall.{Hall};
-ghost use Rattle.dicuts.specs.Shores.{Ranged, Linked, once, Joining};
+ghost use Rattle.dicuts.specs.Shores.{Ranged, once, Joining};
 ghost use Rattle.columns.specs.Columns.{flagged, Ends, Columns};
 ghost use Rattle.pruning.specs.Backed.{Backed};
+ghost use Rattle.pruning.specs.Start.{Rankable, Among};
 
 mod dearest;
-
-// The first m rows.
-pub fn first_rows(m: usize) -> [bool; 256]
-    requires { ⌜ m ≤ 256 ⌝ }
-    ensures { λ r. ⌜ ((k : ℕ) → k < m → getD r k false ≡ true) ⌝ }
-{
-    let mut rows = [false; 256];
-    let mut k: usize = 0;
-    while k < m {
-        rows[k] = true;
-        k += 1;
-    }
-    rows
-}
 
 // Whether the target is reached from the start.
 fn leads(arcs: &[u64; 64], start: usize, target: usize) -> bool
@@ -107,37 +93,38 @@ fn place_of(rank: u64, m: usize) -> usize
     if place < m { place } else { 0 }
 }
 
-// Rows that join a linked hall.
+// Of rows that join a hall some that still join it.
 pub fn start<'a>(
     n: usize,
     m: usize,
     tails: &'a [u8; 256],
     heads: &'a [u8; 256],
-    prices: &'a [u32; 256],
+    costs: &'a [u64; 256],
+    rows: [bool; 256],
 ) -> [bool; 256]
-    requires { ⌜ Ends n m (now tails) (now heads) ⌝ }
-    ensures { λ r. ⌜ ((h : Hall) → Columns h n m (now (tails .entry)) (now (heads .entry)) → Ranged h → Linked h →
-        Joining h (once (flagged r))) ⌝ }
+    requires { ⌜ Ends n m (now tails) (now heads) × Rankable m (now costs) ⌝ }
+    ensures { λ r. ⌜ Among r rows
+        × ((h : Hall) → Columns h n m (now (tails .entry)) (now (heads .entry)) → Ranged h → Joining h (once (flagged rows)) → Joining h (once (flagged r))) ⌝ }
 {
-    let order = dearest::dearest_first(m, prices);
-    let mut rows = first_rows(m);
+    let order = dearest::dearest_first(m, costs);
     let mut arcs = adjacency::of_rows(n, m, tails, heads, &rows);
     let twice = tight::solid_arcs(n, m, tails, heads, &rows);
     let none = [false; 256];
     let forward = adjacency::of_rows(n, m, tails, heads, &none);
+    let mut left = rows;
     let mut turn: usize = 0;
     while turn < m {
         let k = place_of(order[turn], m);
         let head = place(heads[k]);
         let tail = place(tails[k]);
         let found = arcs[head];
-        let kept = rows[k];
-        rows[k] = false;
+        let kept = left[k];
+        left[k] = false;
         let rest = spared_arcs(
             m,
             tails,
             heads,
-            &rows,
+            &left,
             k,
             tail,
             found,
@@ -147,10 +134,10 @@ pub fn start<'a>(
         arcs[head] = rest;
         let dropped = leads(&arcs, head + 1, tail + 1);
         if !dropped {
-            rows[k] = kept;
+            left[k] = kept;
             arcs[head] = found;
         }
         turn += 1;
     }
-    rows
+    left
 }

@@ -35,14 +35,14 @@ pub record Stepped (h : Hall) (c p q : ℕ → ℕ) (F G : ℕ → Bool) (near :
   pub less : slack h c q G < slack h c p F
   pub bound : (j : ℕ) → 1 ≤ j → j ≤ 64 → q j + slack h c q G ≤ p j + slack h c p F
 
--- WHERE REPAIR STARTS: the columns are those of a hall in which the choice joins, P1 and P3 hold, the choice has these neighbourhoods, and no level and the slack together reach 2 to the power 62
+-- WHERE REPAIR STARTS: the columns are those of a hall in which the choice joins, P1 and P3 hold, the choice has these neighbourhoods, and no level and the slack together reach 2 to the power 61
 pub record Repair-start (n m : ℕ) (tails heads costs potential : List ℕ) (chosen : List Bool) (near : List ℕ) : Type 0 where
   pub hall : Hall
   pub columns : Columns hall n m tails heads
   pub ranged : Ranged hall
   pub repairable : Repairable hall (at costs) (at potential) (flagged chosen)
   pub around : Neighbourhoods hall (flagged chosen) near
-  pub bound : (j : ℕ) → 1 ≤ j → j ≤ 64 → at potential j + slack hall (at costs) (at potential) (flagged chosen) < 2 ^ 62
+  pub bound : (j : ℕ) → 1 ≤ j → j ≤ 64 → at potential j + slack hall (at costs) (at potential) (flagged chosen) < 2 ^ 61
 
 -- WHERE REPAIR ENDS, from p and F: q and G are repaired, and no level has grown by more than the slack
 pub record Repair-end (h : Hall) (c p q : ℕ → ℕ) (F G : ℕ → Bool) (near : List ℕ) : Type 0 where

@@ -1,7 +1,10 @@
--- Lone is the set of one junction, or none. Assumes nothing.
+-- Lone is the set of one junction, or none: a bit that is set or not, moved to the place. Assumes nothing.
 use mathlib.Core.Path.{_≡_, sym, ap, _∙_}
-use Prim.Native.Nat.{ℕ, suc, _-_, _^_}
+use mathlib.Core.Bool.{Bool, true, false, _&&_}
+use Prim.Native.Nat.{ℕ, suc, _-_, _*_, _%_, _^_, _≤_, _<_}
 use native.Mathlib.Omega.{arith}
+use lib.Dec.{eqb}
+use mir.Val.{boolByte}
 use borrow.Author.Needs.{needs}
 use Rattle.junctions.specs.Sets.{holds}
 use Rattle.junctions.proofs.Bits.{one-shl}
@@ -9,15 +12,20 @@ use Rattle.junctions.proofs.Sets.{one-holds, none-holds}
 use Rattle.junctions.proofs.lone.Statement.{statement}
 use Rattle.junctions.proofs.lone.Tie as tie
 
+moved : (there : Bool) (k i : ℕ) → k < 64 → 1 ≤ i → holds ((boolByte there * 2 ^ k) % 2 ^ 64) i ≡ (there && eqb i (suc k))
+moved true k i less low =
+    let e : suc k - 1 ≡ k = omega arith in
+    ap (λ (s : ℕ). holds s i) (one-shl k less ∙ ap (λ (j : ℕ). 2 ^ j) (sym e)) ∙ one-holds i (suc k) low (omega arith)
+moved false k i less low = let e : (0 * 2 ^ k) % 2 ^ 64 ≡ 0 = omega arith in ap (λ (s : ℕ). holds s i) e ∙ none-holds i
+
+cast-result : tie.Need-cast-result
+cast-result c = search needs
+
 shl-result : tie.Need-shl-result
 shl-result c = search needs
 
 returns : tie.Need-returns
-returns c = let a = c .before .args in λ i l. let e : suc (a .place) - 1 ≡ a .place = omega arith in
-    rw (one-shl (a .place) (c .before .pre), c .if1 .taken) (ap (λ (k : ℕ). holds (2 ^ k) i) (sym e) ∙ one-holds i (suc (a .place)) l (omega arith))
-
-returns-2 : tie.Need-returns-2
-returns-2 c = λ i l. rw (c .if1 .left) (none-holds i)
+returns c = λ i l. moved (c .args .there) (c .args .place) i (c .pre) l
 
 pub lone-spec : {M : Type 1} → statement M
-lone-spec = tie.close (tie.spec shl-result returns returns-2)
+lone-spec = tie.close (tie.spec cast-result shl-result returns)

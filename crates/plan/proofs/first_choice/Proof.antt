@@ -1,50 +1,43 @@
--- `plan::first_choice` meets its contract. Assumes nothing.
-use borrow.Author.Needs.{needs}
-use Prim.Native.Nat.{_+_, _*_}
+-- `plan::first_choice` repairs at the ranked costs and decides row by row. Assumes nothing.
+use mathlib.Core.Path.{refl}
 use native.Mathlib.Omega.{arith}
-use Rattle.plan.proofs.Stages.{priced, level-low, costs-low, ranked-at, ranked-begin, ranked-can, ranked-end, ranked-low}
+use borrow.Author.Needs.{needs}
+use Rattle.columns.specs.Columns.{at, flagged}
+use Rattle.potentials.proofs.Same.{repaired-same}
+use Rattle.order.specs.Ranked.{ranked}
+use Rattle.plan.proofs.Stages.{end-low}
 use Rattle.plan.proofs.first_choice.Statement.{statement}
 use Rattle.plan.proofs.first_choice.Tie as tie
 
-ranked-costs-requires : tie.Need-ranked-costs-requires
-ranked-costs-requires c κs = let a = c .args in let w = c .pre .1 in
-    (c .pre .0 .few, priced (w .0) (a .n) (a .m) (a .tails .now) (a .heads .now) (a .prices .now) (w .1) (c .pre .0))
+-- the places of the code, each from the one after it
+abbrev at-repair : tie.After-decide-all-arg3 → tie.After-repair
+at-repair c = c .before .before .before .before
 
-scaled-requires : tie.Need-scaled-requires
-scaled-requires c κs = let s = c .before .before in let w = s .pre .1 in level-low (w .0) (s .args .t7) (s .args .chosen) (w .2)
+abbrev at-start : tie.After-decide-all-arg3 → tie.Start
+at-start c = at-repair c .before
 
 repair-requires : tie.Need-repair-requires
-repair-requires c κs = let s = c .before .before .before .before in let a = s .args in let w = s .pre .1 in let costs = c .before .before .before .ranked-costs in (
-  s .pre .0,
-  costs-low (w .0) (a .n) (a .m) (a .tails .now) (a .heads .now) (a .prices .now) (w .1) (s .pre .0) (λ x. 257 * x + 1) (costs .result) (costs .ensures) 257000001 (λ x l. omega arith) (omega arith),
-  ranked-begin (w .0) (a .n) (a .m) (a .tails .now) (a .heads .now) (a .prices .now) (w .1) (s .pre .0) (costs .result) (costs .ensures) (a .t7) (a .chosen) (w .2) (c .before .scaled .result) (c .before .scaled .ensures)
-      (a .around) (w .3),
-)
+repair-requires c κs = search needs
 
 decide-all-requires : tie.Need-decide-all-requires
-decide-all-requires c κs = let s = c .before .before .before .before .before .before .before .before .before .before in let a = s .args in let w = s .pre .1 in
-    let costs = c .before .before .before .before .before .before .before .before .before .ranked-costs in let levels = c .before .before .before .before .before .before .before .scaled in let got = c .before .before .before .before .before .repair in
-    let can = ranked-can (w .0) (a .n) (a .m) (a .tails .now) (a .heads .now) (a .prices .now) (w .1) (s .pre .0) (costs .result) (costs .ensures) (a .t7) (a .chosen) (w .2) (levels .result) (levels .ensures) in (
+decide-all-requires c κs =
+    let s = at-start c in let a = s .args in let from = s .pre .2 in let end = at-repair c .repair in (
       s .pre .0,
-      costs-low (w .0) (a .n) (a .m) (a .tails .now) (a .heads .now) (a .prices .now) (w .1) (s .pre .0) (λ x. 257 * x + 1) (costs .result) (costs .ensures) 257000001 (λ x l. omega arith) (omega arith),
-      ranked-low (w .0) (a .n) (a .m) (a .tails .now) (a .heads .now) (a .prices .now) (w .1) (s .pre .0) (costs .result) (costs .ensures) (a .t7) (a .chosen) (w .2) (levels .result) (levels .ensures)
-          (got .result .potential) (got .result .chosen) (got .result .around) (got .ensures (w .0) (w .1 .columns) (w .1 .ranged) can (w .3)) (search needs),
+      s .pre .1,
+      end-low (a .n) (a .m) (a .tails .now) (a .heads .now) (a .costs .now) (a .levels) (a .chosen) (a .around) from (end .result .potential) (flagged (end .result .chosen)) (end .result .around) (search needs)
+          (end .ensures (from .hall) (from .columns) (from .ranged) (from .repairable) (from .around)),
       search needs,
     )
 
 returns : tie.Need-returns
-returns c = let s = c .before .before .before .before .before .before .before .before .before .before .before in let a = s .args in
-    let costs = c .before .before .before .before .before .before .before .before .before .before .ranked-costs in let levels = c .before .before .before .before .before .before .before .before .scaled in let got = c .before .before .before .before .before .before .repair in
-    λ h rd set near.
-    let can = ranked-can h (a .n) (a .m) (a .tails .now) (a .heads .now) (a .prices .now) rd (s .pre .0) (costs .result) (costs .ensures) (a .t7) (a .chosen) set (levels .result) (levels .ensures) in
-    let end = got .ensures h (rd .columns) (rd .ranged) can near in
-    c .decide-all .ensures h (rd .columns) (rd .ranged)
-    (λ i l u. ranked-at h (a .n) (a .m) (a .tails .now) (a .heads .now) (a .prices .now) rd (s .pre .0) (costs .result) (costs .ensures) (a .t7) (a .chosen) set (levels .result) (levels .ensures) i l (omega (arith, rd .columns .rows)))
-    (ranked-end h (a .n) (a .m) (a .tails .now) (a .heads .now) (a .prices .now) rd (s .pre .0) (costs .result) (costs .ensures) (a .t7) (a .chosen) set (levels .result) (levels .ensures)
-    (got .result .potential) (got .result .chosen) (got .result .around) end)
+returns c =
+    let a = at-start (c .before) .args in let repaired = at-repair (c .before) .repair in
+    λ h cols rg costs can near.
+    let end = repaired .ensures h cols rg can near in
+    c .decide-all .ensures h cols rg costs
+    (repaired-same h rg (at (a .costs .now)) (ranked h) (λ i l u. costs i l (omega (arith, cols .rows))) (at (repaired .result .potential)) (at (repaired .result .potential)) (λ j l u. refl)
+    (flagged (repaired .result .chosen)) (flagged (repaired .result .chosen)) (λ i l u. refl) (end .repaired))
     (end .around)
 
 pub first-choice-spec : {M : Type 1} → statement M
-first-choice-spec =
-    tie.close
-    (tie.spec ranked-costs-requires scaled-requires repair-requires decide-all-requires returns)
+first-choice-spec = tie.close (tie.spec repair-requires decide-all-requires returns)

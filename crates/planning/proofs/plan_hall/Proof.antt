@@ -3,86 +3,185 @@ use native.Mathlib.Omega.{arith}
 use borrow.Author.Needs.{needs}
 use Rattle.hall.specs.Hall.{Hall}
 use Rattle.hall.specs.File.{hall-in}
-use Rattle.columns.specs.Columns.{Ends, flagged}
-use Rattle.cuts.specs.Beside.{highest}
+use Rattle.hall.specs.Plan.{First}
+use Rattle.choicelists.specs.Listed.{listed}
+use Rattle.columns.specs.Columns.{at, Ends, flagged}
+use Rattle.cuts.specs.Beside.{highest, Beside-rows}
+use Rattle.cuts.specs.Thresholds.{Under}
 use Rattle.hallfile.specs.declared.HallRecord.{HallRecord}
-use Rattle.plan.specs.Ready.{Ready}
-use Rattle.plan.proofs.Stages.{priced}
+use Rattle.ledger.specs.Padded.{Priced}
+use Rattle.plan.proofs.Prices.{Accepted, Least, priced, every-ready, price-modest, price-least, level-low, ranked-low, ranked-at, ranked-can, ranked-begin}
 use Rattle.planning.proofs.Plan.{ready, every-flagged, beside-rows, under, planned}
 use Rattle.hallfile.proofs.Accepted as accepted
 use Rattle.planning.proofs.plan_hall.Statement.{statement}
 use Rattle.planning.proofs.plan_hall.Tie as tie
-use Rattle.planning.proofs.plan_hall.Reads as reads
-use Rattle.planning.proofs.plan_hall.Lts as lts
-use Rattle.adjacency.proofs.of_rows.Reads as of-rows-reads
-use Rattle.cuts.proofs.fill.Reads as fill-reads
-use Rattle.ledger.proofs.listing.list_rows.Reads as list-rows-reads
-use Rattle.ledger.proofs.listing.total_of.Reads as total-of-reads
-use Rattle.plan.proofs.cheapest.Reads as cheapest-reads
-use Rattle.plan.proofs.first_choice.Reads as first-choice-reads
 
-abbrev Begin : Type 0
-Begin = lts.Start (of-rows-reads.Asked, of-rows-reads.Learnt, cheapest-reads.Asked, cheapest-reads.Learnt, fill-reads.Asked, fill-reads.Learnt, first-choice-reads.Asked, first-choice-reads.Learnt, list-rows-reads.Asked, list-rows-reads.Learnt, total-of-reads.Asked, total-of-reads.Learnt) reads.Pre reads.Post
+-- the places of the code: where each call is made, from the one after it
+abbrev at-hall : tie.After-every → tie.After-hall
+at-hall c = c .before .before .before
+
+abbrev at-start : tie.After-every → tie.Start
+at-start c = at-hall c .before .before .before .before
+
+abbrev at-links : tie.After-price-costs-arg → tie.After-of-rows
+at-links c = c .before .before
+
+abbrev at-prices : tie.After-prices → tie.After-price-costs
+at-prices c = c .before .before .before .before
+
+abbrev at-lent : tie.After-fill-arg5 → tie.After-fill-arg
+at-lent c = c .before .before .before .before
+
+abbrev at-least : tie.After-fill-arg5 → tie.After-cheapest
+at-least c = at-lent c .before .before .before
+
+abbrev at-levels : tie.After-ranked-costs-arg → tie.After-levels
+at-levels c = c .before .before .before .before
+
+abbrev at-cuts : tie.After-ranked-costs-arg → tie.After-fill
+at-cuts c = at-levels c .before .before .before .before .before
+
+abbrev at-costs : tie.After-scaled-arg → tie.After-ranked-costs
+at-costs c = c .before .before
+
+abbrev at-scaled : tie.After-costs → tie.After-scaled
+at-scaled c = c .before .before .before .before
+
+abbrev at-first : tie.After-list-rows-arg → tie.After-first-choice
+at-first c = c .before .before
+
+abbrev at-rows : tie.After-first2 → tie.After-list-rows
+at-rows c = c .before .before .before .before .before
+
+-- the start, from each call
+abbrev from-prices : tie.After-price-costs-arg → tie.Start
+from-prices c = at-start (at-links c .before)
+
+abbrev from-least : tie.After-prices → tie.Start
+from-least c = from-prices (at-prices c .before)
+
+abbrev from-cuts : tie.After-fill-arg5 → tie.Start
+from-cuts c = from-least (at-least c .before)
+
+abbrev from-costs : tie.After-ranked-costs-arg → tie.Start
+from-costs c = from-cuts (at-cuts c .before)
+
+abbrev from-first : tie.After-costs → tie.Start
+from-first c = from-costs (at-costs (at-scaled c .before) .before)
+
+abbrev from-rows : tie.After-list-rows-arg → tie.Start
+from-rows c = from-first (at-first c .before)
+
+abbrev from-total : tie.After-first2 → tie.Start
+from-total c = from-rows (at-rows c .before)
 
 -- the hall that was read
-module _ (s : Begin) where
+module _ (s : tie.Start) where
   abbrev hall : HallRecord
   hall = s .args .t1
 
   abbrev h : Hall
   h = hall-in (s .pre .4 .0)
 
-  is-ready : Ready h (hall .n) (hall .count) (hall .tails) (hall .heads) (hall .prices)
+  -- its columns hold a hall
+  abbrev Holds : Hall → Type 0
+  Holds k = Accepted k (hall .n) (hall .count) (hall .tails) (hall .heads) (hall .prices)
+
+  is-ready : Holds h
   is-ready = ready (s .pre .4 .0) (s .pre .4 .1) hall (s .pre .4 .2)
 
   ends : Ends (hall .n) (hall .count) (hall .tails) (hall .heads)
   ends = accepted.ends (s .pre .4 .0) (s .pre .4 .1) hall (s .pre .4 .2)
 
+  prices-low : Priced (hall .count) (hall .prices)
+  prices-low = priced h (hall .n) (hall .count) (hall .tails) (hall .heads) (hall .prices) is-ready ends
+
 of-rows-requires : tie.Need-of-rows-requires
-of-rows-requires c κs = ends (c .before .before .before .before .before .before .before)
+of-rows-requires c κs = ends (at-start c)
+
+price-costs-requires : tie.Need-price-costs-requires
+price-costs-requires c κs = let s = from-prices c in (ends s .few, prices-low s)
 
 cheapest-requires : tie.Need-cheapest-requires
-cheapest-requires c κs = let s = c .before .before .before .before .before .before .before .before .before .before .before .before in (ends s, (h s, is-ready s))
-
-fill-requires : tie.Need-fill-requires
-fill-requires c κs = let s = c .before .before .before .before .before .before .before .before .before .before .before .before .before .before .before .before .before .before .before .before in let links = c .before .before .before .before .before .before .before .before .before .before .before .before .of-rows in let least = c .before .before .before .before .before .before .before .cheapest in (
-  ends s .size,
-  s .pre .1,
-  s .pre .2,
-  omega (arith, ends s .size, s .pre .3),
-  (
-    h s,
-    flagged (least .result .chosen),
-    beside-rows (h s) (hall s .n) (hall s .count) (hall s .tails) (hall s .heads) (hall s .prices) (is-ready s) (ends s) (least .result) (least .ensures (h s) (is-ready s))
-        (links .result) (every-flagged (h s) (links .result) (omega (arith, is-ready s .columns .rows, ends s .few)) (links .ensures (h s) (is-ready s .columns))),
-  ),
-)
-
-first-choice-requires : tie.Need-first-choice-requires
-first-choice-requires c κs = let s = c .before .before .before .before .before .before .before .before .before .before .before .before .before .before .before .before .before .before .before .before .before .before .before .before .before .before .before .before .before .before .before .before .before in let least = c .before .before .before .before .before .before .before .before .before .before .before .before .before .before .before .before .before .before .before .before .cheapest in
-    let cheap = least .ensures (h s) (is-ready s) in (ends s, (h s, is-ready s, cheap .settled, cheap .around))
-
-list-rows-requires : tie.Need-list-rows-requires
-list-rows-requires c κs = let s = c .before .before .before .before .before .before .before .before .before .before .before .before .before .before .before .before .before .before .before .before .before .before .before .before .before .before .before .before .before .before .before .before .before .before .before .before in (ends s .few, omega (arith, ends s .few, s .pre .0))
-
-total-of-requires : tie.Need-total-of-requires
-total-of-requires c κs = let s = c .before .before .before .before .before .before .before .before .before .before .before .before .before .before .before .before .before .before .before .before .before .before .before .before .before .before .before .before .before .before .before .before .before .before .before .before .before .before .before .before .before .before in (ends s .few, priced (h s) (hall s .n) (hall s .count) (hall s .tails) (hall s .heads) (hall s .prices) (is-ready s) (ends s))
-
-cast-t46 : tie.Need-cast-t46
-cast-t46 c = omega (arith, c .before .before .before .before .before .before .list-rows .ensures .0, ends (c .before .before .before .before .before .before .before .before .before .before .before .before .before .before .before .before .before .before .before .before .before .before .before .before .before .before .before .before .before .before .before .before .before .before .before .before .before .before .before .before .before .before .before) .few)
-
-cast-t47 : tie.Need-cast-t47
-cast-t47 c = let s = c .before .before .before .before .before .before .before .before .before .before .before .before .before .before .before .before .before .before .before .before .before .before .before .before .before .before .before .before .before .before .before .before .before .before .before .before .before .before .before .before .before .before .before in let links = c .before .before .before .before .before .before .before .before .before .before .before .before .before .before .before .before .before .before .before .before .before .before .before .before .before .before .before .before .before .before .before .before .before .before .before .of-rows in let least = c .before .before .before .before .before .before .before .before .before .before .before .before .before .before .before .before .before .before .before .before .before .before .before .before .before .before .before .before .before .before .cheapest in
-    omega (
-      arith,
-      (c .before .before .before .before .before .before .before .before .before .before .before .before .before .before .before .before .before .before .before .before .before .before .fill .ensures (h s) (flagged (least .result .chosen))
-          (beside-rows (h s) (hall s .n) (hall s .count) (hall s .tails) (hall s .heads) (hall s .prices) (is-ready s) (ends s) (least .result) (least .ensures (h s) (is-ready s))
-          (links .result) (every-flagged (h s) (links .result) (omega (arith, is-ready s .columns .rows, ends s .few)) (links .ensures (h s) (is-ready s .columns)))) highest
-          (under (h s) (hall s .n) (hall s .count) (hall s .tails) (hall s .heads) (hall s .prices) (is-ready s) (ends s) (least .result) (least .ensures (h s) (is-ready s)))) .0 .few,
+cheapest-requires c κs =
+    let s = from-least c in let x = hall s in let costs = at-prices c .price-costs in (
+      ends s,
+      price-modest (h s) (x .n) (x .count) (x .tails) (x .heads) (x .prices) (is-ready s) (ends s) (costs .result) (costs .ensures),
+      (h s, every-ready (h s) (x .n) (x .count) (x .tails) (x .heads) (x .prices) (is-ready s) (ends s)),
     )
 
-cast-t48 : tie.Need-cast-t48
-cast-t48 c = omega (arith, ends (c .before .before .before .before .before .before .before .before .before .before .before .before .before .before .before .before .before .before .before .before .before .before .before .before .before .before .before .before .before .before .before .before .before .before .before .before .before .before .before .before .before .before .before) .size)
+-- what is least, for any hall in the columns
+module _ (c : tie.After-fill-arg5) (k : Hall) (rd : Holds (from-cuts c) k) where
+  is-least : Least k (at-least c .cheapest .result)
+  is-least =
+      let s = from-cuts c in let x = hall s in let costs = at-prices (at-least c .before) .price-costs in let found = at-least c .cheapest in
+      price-least k (x .n) (x .count) (x .tails) (x .heads) (x .prices) rd (ends s) (costs .result) (costs .ensures) (found .result)
+      (found .ensures k (every-ready k (x .n) (x .count) (x .tails) (x .heads) (x .prices) rd (ends s)))
+
+  beside : Beside-rows k (flagged (at-least c .cheapest .result .chosen)) (hall (from-cuts c) .n) (at-links (at-prices (at-least c .before) .before) .of-rows .result)
+      (at-least c .cheapest .result .around) (at-least c .cheapest .result .potential)
+  beside =
+      let s = from-cuts c in let x = hall s in let links = at-links (at-prices (at-least c .before) .before) .of-rows in
+      beside-rows k (x .n) (x .count) (x .tails) (x .heads) (x .prices) rd (ends s) (at-least c .cheapest .result) is-least (links .result)
+      (every-flagged k (links .result) (omega (arith, rd .columns .rows, ends s .few)) (links .ensures k (rd .columns)))
+
+  levels-under : Under (hall (from-cuts c) .n) (at (at-least c .cheapest .result .potential)) highest
+  levels-under = let s = from-cuts c in let x = hall s in under k (x .n) (x .count) (x .tails) (x .heads) (x .prices) rd (ends s) (at-least c .cheapest .result) is-least
+
+fill-requires : tie.Need-fill-requires
+fill-requires c κs =
+    let s = from-cuts c in
+    (ends s .size, s .pre .1, s .pre .2, omega (arith, ends s .size, s .pre .3), (h s, flagged (at-least c .cheapest .result .chosen), beside c (h s) (is-ready s)))
+
+ranked-costs-requires : tie.Need-ranked-costs-requires
+ranked-costs-requires c κs = let s = from-costs c in (ends s .few, prices-low s)
+
+scaled-requires : tie.Need-scaled-requires
+scaled-requires c κs =
+    let costs = at-costs c in let s = from-costs (costs .before) in let x = hall s in let fill = at-cuts (costs .before) .before in
+    level-low (h s) (x .n) (x .count) (x .tails) (x .heads) (x .prices) (is-ready s) (ends s) (at-least fill .cheapest .result) (is-least fill (h s) (is-ready s))
+
+first-choice-requires : tie.Need-first-choice-requires
+first-choice-requires c κs =
+    let scaled = at-scaled c in let costs = at-costs (scaled .before) in let fill = at-cuts (costs .before) .before in
+    let s = from-cuts fill in let x = hall s in let found = at-least fill .cheapest .result in let least = is-least fill (h s) (is-ready s) in (
+      ends s,
+      ranked-low (h s) (x .n) (x .count) (x .tails) (x .heads) (x .prices) (is-ready s) (ends s) found least
+          (costs .ranked-costs .result) (costs .ranked-costs .ensures) (scaled .scaled .result) (scaled .scaled .ensures),
+      ranked-begin (h s) (x .n) (x .count) (x .tails) (x .heads) (x .prices) (is-ready s) (ends s) found least
+          (costs .ranked-costs .result) (costs .ranked-costs .ensures) (scaled .scaled .result) (scaled .scaled .ensures),
+    )
+
+-- the first choice, for any hall in the columns
+module _ (c : tie.After-first-choice) (k : Hall) (rd : Holds (from-first (c .before)) k) where
+  is-first : First k (listed k (flagged (c .first-choice .result)))
+  is-first =
+      let scaled = at-scaled (c .before) in let costs = at-costs (scaled .before) in let fill = at-cuts (costs .before) .before in
+      let s = from-cuts fill in let x = hall s in let found = at-least fill .cheapest .result in let least = is-least fill k rd in
+      c .first-choice .ensures k (rd .columns) (rd .ranged)
+      (ranked-at k (x .n) (x .count) (x .tails) (x .heads) (x .prices) rd (ends s) found least
+      (costs .ranked-costs .result) (costs .ranked-costs .ensures) (scaled .scaled .result) (scaled .scaled .ensures))
+      (ranked-can k (x .n) (x .count) (x .tails) (x .heads) (x .prices) rd (ends s) found least
+      (costs .ranked-costs .result) (costs .ranked-costs .ensures) (scaled .scaled .result) (scaled .scaled .ensures))
+      (least .around)
+
+list-rows-requires : tie.Need-list-rows-requires
+list-rows-requires c κs = let s = from-rows c in (ends s .few, omega (arith, ends s .few, s .pre .0))
+
+total-of-requires : tie.Need-total-of-requires
+total-of-requires c κs = let s = from-total c in (ends s .few, prices-low s)
+
+cast-t52 : tie.Need-cast-t52
+cast-t52 c = omega (arith, at-rows (c .before) .list-rows .ensures .0, ends (from-total (c .before)) .few)
+
+cast-t53 : tie.Need-cast-t53
+cast-t53 c =
+    let cuts = at-cuts (at-costs (at-scaled (at-first (at-rows (c .before) .before) .before) .before) .before) in
+    let s = from-cuts (cuts .before) in
+    omega (arith, cuts .fill .ensures (h s) (flagged (at-least (cuts .before) .cheapest .result .chosen)) (beside (cuts .before) (h s) (is-ready s)) highest (levels-under (cuts .before) (h s) (is-ready s)) .0 .few)
+
+cast-t54 : tie.Need-cast-t54
+cast-t54 c = omega (arith, ends (from-total (c .before)) .size)
 
 same-length : tie.Need-same-length
 same-length c = search needs
@@ -97,15 +196,35 @@ same-length-4 : tie.Need-same-length-4
 same-length-4 c = search needs
 
 returns : tie.Need-returns
-returns c = let s = c .before .before .before .before .before .before .before .before .before .before .before .before .before .before .before .before .before .before .before .before .before .before .before .before .before .before .before .before .before .before .before .before .before .before .before .before .before .before .before .before .before .before .before in let a = s .args in let x = a .t1 in let links = c .before .before .before .before .before .before .before .before .before .before .before .before .before .before .before .before .before .before .before .before .before .before .before .before .before .before .before .before .before .before .before .before .before .before .before .of-rows in let least = c .before .before .before .before .before .before .before .before .before .before .before .before .before .before .before .before .before .before .before .before .before .before .before .before .before .before .before .before .before .before .cheapest in
-    let filled = c .before .before .before .before .before .before .before .before .before .before .before .before .before .before .before .before .before .before .before .before .before .before .fill in let first = c .before .before .before .before .before .before .before .before .before .first-choice in let listed = c .before .before .before .before .before .before .list-rows in
-    λ bs fine is. let k = hall-in bs in let rd = ready bs fine x is in let e = ends s in let cheap = least .ensures k rd in
-    let beside = beside-rows k (x .n) (x .count) (x .tails) (x .heads) (x .prices) rd e (least .result) cheap (links .result)
-    (every-flagged k (links .result) (omega (arith, rd .columns .rows, e .few)) (links .ensures k (rd .columns))) in
-    let got = filled .ensures k (flagged (least .result .chosen)) beside highest (under k (x .n) (x .count) (x .tails) (x .heads) (x .prices) rd e (least .result) cheap) in
-    planned k (x .n) (x .count) (x .tails) (x .heads) (x .prices) rd e (least .result) cheap (first .result) (first .ensures k rd (cheap .settled) (cheap .around))
-    (a .rows .now) _ (a .shores .now) _ (a .weights .now) _ (a .levels .now) _ (s .pre .1) (s .pre .2) (s .pre .3) (filled .result) (listed .result) (c .total-of .result)
-    (got .0) (got .1) (listed .ensures .1 k (rd .columns .rows)) (c .total-of .ensures)
+returns c =
+    let rows = at-rows (c .before) in let first = at-first (rows .before) in
+    let cuts = at-cuts (at-costs (at-scaled (first .before) .before) .before) in let fill = cuts .before in
+    let s = from-cuts fill in let a = s .args in let x = hall s in let found = at-least fill .cheapest .result in
+    λ bs fine is.
+    let k = hall-in bs in let rd = ready bs fine x is in
+    let got = cuts .fill .ensures k (flagged (found .chosen)) (beside fill k rd) highest (levels-under fill k rd) in
+    planned k (x .n) (x .count) (x .tails) (x .heads) (x .prices) rd (ends s) found (is-least fill k rd) (first .first-choice .result) (is-first first k rd)
+    (a .rows .now) _ (a .shores .now) _ (a .weights .now) _ (a .levels .now) _ (s .pre .1) (s .pre .2) (s .pre .3) (cuts .fill .result) (rows .list-rows .result) (c .total-of .result)
+    (got .0) (got .1) (rows .list-rows .ensures .1 k (rd .columns .rows)) (c .total-of .ensures)
 
 pub plan-hall-spec : {M : Type 1} → statement M
-plan-hall-spec = tie.close (tie.spec of-rows-requires cheapest-requires fill-requires first-choice-requires list-rows-requires total-of-requires cast-t46 cast-t47 cast-t48 same-length same-length-2 same-length-3 same-length-4 returns)
+plan-hall-spec =
+    tie.close
+    (tie.spec
+    of-rows-requires
+    price-costs-requires
+    cheapest-requires
+    fill-requires
+    ranked-costs-requires
+    scaled-requires
+    first-choice-requires
+    list-rows-requires
+    total-of-requires
+    cast-t52
+    cast-t53
+    cast-t54
+    same-length
+    same-length-2
+    same-length-3
+    same-length-4
+    returns)
