@@ -76,14 +76,14 @@ refused-requires c κs = search needs
 
 returns-2 : tie.Need-returns-2
 unfolding refusal-of refusal
-returns-2 c = let e = c .before .before .before in
+returns-2 c = let walk = c .before .before in let e = walk .before in
     reply-kind Unjoined _ _ (c .refused .result) (c .refused .ensures)
-    (sound-unconnected (file e) (sound e) (sym (c .before .before .is-connected .ensures (hall-in (file e)) (columns e)) ∙ not-true _ (c .before .if2 .taken))) refl
+    (sound-unconnected (file e) (sound e) (sym (walk .is-connected .ensures (hall-in (file e)) (columns e)) ∙ not-true (walk .is-connected .result) (c .before .if2 .taken))) refl
 
 returns-3 : tie.Need-returns-3
 unfolding refusal
-returns-3 c = let e = c .before .before in let reading = read e .read-shape in
-    let none = sound-connected (file e) (sound e) (sym (c .before .is-connected .ensures (hall-in (file e)) (columns e)) ∙ not-false _ (c .if2 .left)) in
+returns-3 c = let walk = c .before in let e = walk .before in let reading = read e .read-shape in
+    let none = sound-connected (file e) (sound e) (sym (walk .is-connected .ensures (hall-in (file e)) (columns e)) ∙ not-false (walk .is-connected .result) (c .if2 .left)) in
     reply-hall _ _ (reading .result) (kind-none (reading .result .refusal) (ap (λ (w : Refusal). eqb (w .number) 0) (reading .ensures .refusal) ∙ fine e) ∙ sym none) (rw none) (is-record e)
 
 pub read-hall-spec : {M : Type 1} → statement M

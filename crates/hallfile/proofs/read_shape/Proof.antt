@@ -20,7 +20,7 @@ module _ (m : tie.After-number) where
   file = m .before .before .before .args .file .now
 
   long : length-good file ≡ true
-  long = not-false _ (m .before .if1 .left)
+  long = not-false (length-good file) (m .before .if1 .left)
 
 -- where the table is tried: 3 is not met
 module _ (t : tie.After-table-fits) where
@@ -28,7 +28,7 @@ module _ (t : tie.After-table-fits) where
   at-number = t .before .before .before
 
   some : junctions-good (at-number .number .result) ≡ true
-  some = not-false _ (t .before .before .if2 .left)
+  some = not-false (junctions-good (at-number .number .result)) (t .before .before .if2 .left)
 
 -- where the rows are to be counted: 4 is not met
 module _ (e : tie.Else3) where
@@ -36,7 +36,7 @@ module _ (e : tie.Else3) where
   at-table = e .before
 
   keeps : table-good (at-table .before .number2 .result) (file (at-number at-table)) ≡ true
-  keeps = sym (at-table .table-fits .ensures) ∙ not-false _ (e .if3 .left)
+  keeps = sym (at-table .table-fits .ensures) ∙ not-false (at-table .table-fits .result) (e .if3 .left)
 
 refused-requires : tie.Need-refused-requires
 refused-requires c κs = search needs
@@ -44,10 +44,10 @@ refused-requires c κs = search needs
 returns : tie.Need-returns
 unfolding refusal-of refusal
 returns c = let file = c .before .before .before .args .file .now in
-    reply-kind FileLength _ _ (c .refused .result) (c .refused .ensures) (refuse-length file (not-true _ (c .before .if1 .taken))) refl
+    reply-kind FileLength _ _ (c .refused .result) (c .refused .ensures) (refuse-length file (not-true (length-good file) (c .before .if1 .taken))) refl
 
 number-requires : tie.Need-number-requires
-number-requires c κs = let low = length-low (c .before .before .args .file .now) (not-false _ (c .if1 .left)) in (omega arith, omega arith)
+number-requires c κs = let file = c .before .before .args .file .now in let low = length-low file (not-false (length-good file) (c .if1 .left)) in (omega arith, omega arith)
 
 refused-requires-2 : tie.Need-refused-requires-2
 refused-requires-2 c κs = search needs
@@ -56,7 +56,7 @@ returns-2 : tie.Need-returns-2
 unfolding refusal-of refusal
 returns-2 c = let m = c .before .before in
     reply-kind JunctionCount _ _ (c .refused2 .result) (c .refused2 .ensures)
-    (refuse-junctions (file m) (m .number .result) (m .number .ensures .0) (long m) (not-true _ (c .before .if2 .taken))) refl
+    (refuse-junctions (file m) (m .number .result) (m .number .ensures .0) (long m) (not-true (junctions-good (m .number .result)) (c .before .if2 .taken))) refl
 
 number-requires-2 : tie.Need-number-requires-2
 number-requires-2 c κs = let m = c .before in let low = length-low (file m) (long m) in (omega arith, omega arith)
@@ -72,7 +72,7 @@ unfolding refusal-of refusal
 returns-3 c = let t = c .before .before in let m = at-number t in
     reply-kind Blocks _ _ (c .refused3 .result) (c .refused3 .ensures)
     (refuse-table (file m) (m .number .result) (m .number .ensures .0) (long m) (t .before .number2 .result) (t .before .number2 .ensures .0) (some t)
-    (sym (t .table-fits .ensures) ∙ not-true _ (c .before .if3 .taken))) refl
+    (sym (t .table-fits .ensures) ∙ not-true (t .table-fits .result) (c .before .if3 .taken))) refl
 
 row-count-requires : tie.Need-row-count-requires
 row-count-requires c κs = let t = at-table c in let table = table-of (t .before .number2 .result) (file (at-number t)) (keeps c) in (table .few, table .fits)
