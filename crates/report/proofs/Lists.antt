@@ -26,7 +26,7 @@ use Rattle.printing.proofs.Recorded.{hall-of-record}
 use Rattle.report.specs.Report.{Report-as, Report-says}
 
 -- with lists of full length only the hall's refusals are left
-pub full-lists : (bs : List ℕ) (r : Planned) (a x b y q z : List ℕ) (d w : List ℤ) → length a ≡ 256 → length b ≡ 125 → length q ≡ 125 → length d ≡ 64 →
+full-lists : (bs : List ℕ) (r : Planned) (a x b y q z : List ℕ) (d w : List ℤ) → length a ≡ 256 → length b ≡ 125 → length q ≡ 125 → length d ≡ 64 →
     Plan-says bs r a x b y q z d w → Plan-as (hall-refusal bs .number) (hall-refusal bs) (hall-in bs) r a x b y q z d w
 unfolding Plan-says plan-refusal
 full-lists bs r a x b y q z d w la lb lq ld says = rw (la, lb, lq, ld) at says
@@ -38,7 +38,7 @@ module _ (f : Refusal) (h : Hall) (r : Planned) (a x b y q z : List ℕ) (d w : 
   refused-as zero e plan n before after size put = clash (ap (λ (g : Refusal). eqb (g .number) 0) (plan .4 .0)) n
   refused-as (suc k) e turned n before after size put = subst (λ (g : Refusal). In-front (printed-refusal g) before after size) (turned .0) put
 
-  pub report-refused : Plan-as (f .number) f h r a x b y q z d w → eqb (refusal-of (r .refusal) .number) 0 ≡ false →
+  report-refused : Plan-as (f .number) f h r a x b y q z d w → eqb (refusal-of (r .refusal) .number) 0 ≡ false →
       (before after : List ℕ) (size : ℕ) → In-front (printed-refusal (refusal-of (r .refusal))) before after size → Report-as (f .number) f h before after size
   report-refused plan n before after size put = refused-as (f .number) refl plan n before after size put
 
@@ -47,7 +47,7 @@ module _ (f : Refusal) (h : Hall) (r : Planned) (a x b y q z : List ℕ) (d w : 
   none-as zero e plan t = refl
   none-as (suc k) e turned t = omega (arith, eqb-true (f .number) 0 (ap (λ (g : Refusal). eqb (g .number) 0) (sym (turned .0)) ∙ t))
 
-  pub number-none : Plan-as (f .number) f h r a x b y q z d w → eqb (refusal-of (r .refusal) .number) 0 ≡ true → f .number ≡ 0
+  number-none : Plan-as (f .number) f h r a x b y q z d w → eqb (refusal-of (r .refusal) .number) 0 ≡ true → f .number ≡ 0
   number-none plan t = none-as (f .number) refl plan t
 
 -- the cuts of a list's shores and weights are the list
@@ -86,7 +86,7 @@ module _ {A : Type 0} where
   front-are new old xs n e is = ap (take n) is ∙ take-at new (drop (length new) old) n (sym e)
 
 module _ (h : Hall) (r : Planned) (a x b y q z : List ℕ) (d w : List ℤ) where
-  pub plan-lists : Plan-as 0 (refusal 0 0) h r a x b y q z d w → Lists h r x y z w
+  plan-lists : Plan-as 0 (refusal 0 0) h r a x b y q z d w → Lists h r x y z w
   unfolding Plan-as Filled in-front levels
   plan-lists plan =
       let c = plan .0 in
@@ -111,8 +111,26 @@ module _ (h : Hall) (r : Planned) (a x b y q z : List ℕ) (d w : List ℤ) wher
         levels-are = front-are (levels-from (h .n) 1 ks) d w (r .levels) last tail;
       }
 
+-- WHAT PLANNING LEAVES in lists of full length: the number of a refusal, or the lists of a plan
+pub record Outcome (bs : List ℕ) (r : Planned) (x y z : List ℕ) (w : List ℤ) : Type 0 where
+  pub refused : eqb (refusal-of (r .refusal) .number) 0 ≡ false → {before after : List ℕ} {size : ℕ} → In-front (printed-refusal (refusal-of (r .refusal))) before after size → Report-says bs before after size
+  pub fine : eqb (refusal-of (r .refusal) .number) 0 ≡ true → hall-refusal bs .number ≡ 0
+  pub lists : hall-refusal bs .number ≡ 0 → Lists (hall-in bs) r x y z w
+
+pub outcome : (bs : List ℕ) (r : Planned) (a x b y q z : List ℕ) (d w : List ℤ) → length a ≡ 256 → length b ≡ 125 → length q ≡ 125 → length d ≡ 64 → Plan-says bs r a x b y q z d w → Outcome bs r x y z w
+unfolding Report-says Plan-as
+outcome bs r a x b y q z d w la lb lq ld says =
+    let f = hall-refusal bs in
+    let h = hall-in bs in
+    let plan = full-lists bs r a x b y q z d w la lb lq ld says in
+    record {
+      refused = λ n {before} {after} {size} put. report-refused f h r a x b y q z d w plan n before after size put;
+      fine = number-none f h r a x b y q z d w plan;
+      lists = λ none. plan-lists h r a x b y q z d w (rw none at plan);
+    }
+
 -- a plan's lists can be printed, and what is printed is the report
-module _ (h : Hall) (size : h .n ≤ 64) (few : count h ≤ 256) (r : Planned) (x y z : List ℕ) (w : List ℤ) (ls : Lists h r x y z w) (hall : HallRecord) (is : hall ≡ record-of h) where
+module _ {h : Hall} {r : Planned} {x y z : List ℕ} {w : List ℤ} {hall : HallRecord} (size : h .n ≤ 64) (few : count h ≤ 256) (ls : Lists h r x y z w) (is : hall ≡ record-of h) where
   same-hall : hall-of hall ≡ h
   same-hall = ap hall-of is ∙ hall-of-record h few
 
@@ -128,11 +146,11 @@ module _ (h : Hall) (size : h .n ≤ 64) (few : count h ≤ 256) (r : Planned) (
         leveled = omega (arith, ap length (ls .levels-are), levels-length (h .n) 1 (ls .cuts));
       }
 
-  pub report-planned : (f : Refusal) → f .number ≡ 0 → (before after : List ℕ) (end : ℕ) →
+  pub report-planned : (f : Refusal) → f .number ≡ 0 → {before after : List ℕ} {end : ℕ} →
       In-front (printed-plan (hall-of hall) (take (r .chosen) x) (r .total) (cuts-of (take (r .cuts) y) (take (r .cuts) z)) (take (r .levels) w)) before after end →
       Report-as (f .number) f h before after end
   unfolding Report-as
-  report-planned f none before after end put =
+  report-planned f none put =
       let same : cuts-of (take (r .cuts) y) (take (r .cuts) z) ≡ ls .cuts = ap₂ cuts-of (ls .shores-are) (ls .weights-are) ∙ same-cuts (ls .cuts) in
       rw none (ls .choice, ls .cuts, ls .first, ls .beside, rw (same-hall, ls .rows-are, ls .total-is, same, ls .levels-are) at put)
 

@@ -1,4 +1,4 @@
--- `cutlist::write_cuts` meets its contract: a walk of its MIR, by hand. The lent list is opened once, before the loop, and closed once, after it. Each turn calls `cut_at`, of which the proof knows only that it meets its contract, and stores one cut.
+-- `cutlist::write_cuts` writes the first cuts of the two lists into the lent list, one a turn: a walk of its MIR, by hand. The invariant: the first places hold the cuts written so far, the others are as before. The measure is how many cuts are left. The lent list is opened once, before the loop, and closed once, after it. Of `cut_at`, which each turn calls, the proof knows only that it meets its contract.
 -- Assumes nothing.
 use mathlib.Core.Path.{_≡_, refl, sym, ap, _∙_, subst}
 use mathlib.Core.Bool.{Bool, not}

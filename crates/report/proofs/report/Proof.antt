@@ -1,4 +1,4 @@
--- `report::report` meets its contract: what is printed is the plan, or the refusal. Assumes nothing.
+-- `report::report` prints the plan of the file's hall, or its refusal: planning leaves one of the two, and the printing calls put it at the front. Assumes nothing.
 use mathlib.Core.Path.{_≡_, refl, sym, _∙_}
 use mathlib.Core.Bool.{true}
 use mathlib.Core.List.{List}
@@ -8,47 +8,60 @@ use lib.Seq.{length-take-le}
 use borrow.Author.Needs.{needs}
 use borrow.Author.Tests.{not-true, not-false, eq-eqb}
 use Rattle.hall.specs.File.{hall-in, hall-refusal}
+use Rattle.hallfile.specs.Record.{record-of}
 use Rattle.hallfile.proofs.Reply.{reply-record}
 use Rattle.planning.specs.declared.Planned.{Planned}
-use Rattle.planning.specs.Plan.{Plan-as}
 use Rattle.hallfile.proofs.Accepted.{sound}
 use Rattle.report.specs.Report.{Report-says}
-use Rattle.report.proofs.Lists.{full-lists, report-refused, number-none, Lists, plan-lists, printable, report-planned}
+use Rattle.report.proofs.Lists.{Outcome, outcome, Lists, printable, report-planned}
 use Rattle.report.proofs.report.Statement.{statement}
 use Rattle.report.proofs.report.Tie as tie
-use Rattle.report.proofs.report.Reads as reads
-use Rattle.report.proofs.report.Lts as lts
-use Rattle.refusals.proofs.Kind.is_none.Reads as is-none-reads
-use Rattle.hallfile.proofs.read_hall.Reads as read-hall-reads
-use Rattle.planning.proofs.plan_core.Reads as plan-core-reads
-use Rattle.printing.proofs.print_kind.Reads as print-kind-reads
-use Rattle.printing.proofs.print_plan.Reads as print-plan-reads
 
-abbrev Planned-fine : Type 0
-Planned-fine = lts.Else1 (plan-core-reads.Asked, plan-core-reads.Learnt, is-none-reads.Asked, is-none-reads.Learnt, print-kind-reads.Asked, print-kind-reads.Learnt, read-hall-reads.Asked, read-hall-reads.Learnt, print-plan-reads.Asked, print-plan-reads.Learnt) reads.Pre reads.Post
+-- the places of the code: the start and the plan, from the test for a refusal
+abbrev at-lent : tie.After-plan-core → tie.After-slice-known
+at-lent p = p .before .before .before .before .before
 
--- where there is a plan
-module _ (e : Planned-fine) where
+abbrev at-start : tie.After-plan-core → tie.Start
+at-start p = at-lent p .before .before
+
+abbrev at-plan : tie.After-is-none → tie.After-plan-core
+at-plan c = c .before .before .before .before .before
+
+-- the hall that was read, from where the lists are cut, and that place, from where all four are
+abbrev at-hall : tie.After-print-plan-arg → tie.After-read-hall
+at-hall c = c .before .before .before .before .before
+
+abbrev at-cut : tie.After-levels3 → tie.After-print-plan-arg
+at-cut c = c .before .before .before .before
+
+-- what planning leaves
+module _ (p : tie.After-plan-core) where
   abbrev file : List ℕ
-  file = e .before .before .before .before .before .before .before .before .before .before .before .before .before .args .file .now
+  file = at-start p .args .file .now
 
   abbrev plan : Planned
-  plan = e .before .before .before .before .before .before .plan-core .result
+  plan = p .plan-core .result
 
-  none : hall-refusal file .number ≡ 0
-  none =
-      number-none (hall-refusal file) (hall-in file) plan _ _ _ _ _ _ _ _
-      (full-lists file plan _ _ _ _ _ _ _ _ refl refl refl refl (e .before .before .before .before .before .before .plan-core .ensures))
-      (sym (e .before .is-none .ensures) ∙ not-false (e .before .is-none .result) (e .if1 .left))
+  left : Outcome file plan (p .plan-core .last .1 .0) (p .plan-core .last .1 .1 .0) (p .plan-core .last .1 .1 .1 .0) (p .plan-core .last .1 .1 .1 .1 .0)
+  left = outcome file plan _ _ _ _ _ _ _ _ refl refl refl refl (p .plan-core .ensures)
 
-  fine : eqb (hall-refusal file .number) 0 ≡ true
-  fine = eq-eqb (hall-refusal file .number) 0 none
+-- where there is a plan
+module _ (e : tie.Else1) where
+  abbrev p : tie.After-plan-core
+  p = at-plan (e .before)
 
-  lists : Lists (hall-in file) plan (e .before .before .before .before .before .before .plan-core .last .1 .0) (e .before .before .before .before .before .before .plan-core .last .1 .1 .0) (e .before .before .before .before .before .before .plan-core .last .1 .1 .1 .0) (e .before .before .before .before .before .before .plan-core .last .1 .1 .1 .1 .0)
-  unfolding Plan-as
-  lists =
-      plan-lists (hall-in file) plan _ _ _ _ _ _ _ _
-      (rw none at (full-lists file plan _ _ _ _ _ _ _ _ refl refl refl refl (e .before .before .before .before .before .before .plan-core .ensures)))
+  none : hall-refusal (file p) .number ≡ 0
+  none = left p .fine (sym (e .before .is-none .ensures) ∙ not-false (e .before .is-none .result) (e .if1 .left))
+
+  fine : eqb (hall-refusal (file p) .number) 0 ≡ true
+  fine = eq-eqb (hall-refusal (file p) .number) 0 none
+
+  lists : Lists (hall-in (file p)) (plan p) (p .plan-core .last .1 .0) (p .plan-core .last .1 .1 .0) (p .plan-core .last .1 .1 .1 .0) (p .plan-core .last .1 .1 .1 .1 .0)
+  lists = left p .lists none
+
+-- the hall that is read again is the file's
+hall-is : (g : tie.After-read-hall) → g .read-hall .result .hall ≡ record-of (hall-in (file (p (g .before))))
+hall-is g = let bs = file (p (g .before)) in reply-record (hall-refusal bs) (hall-in bs) (g .read-hall .result) (g .read-hall .ensures) (fine (g .before))
 
 slice-aggregate-plan-core : tie.Need-slice-aggregate-plan-core
 slice-aggregate-plan-core c = search needs
@@ -75,11 +88,10 @@ same-length : tie.Need-same-length
 same-length c = search needs
 
 returns : tie.Need-returns
-unfolding Report-says
-returns c = let s = c .before .before .before .before .before .before .before .before .before .before .before .before .before .before .before .before .before in let a = s .args in let made = c .before .before .before .before .before .before .before .before .before .before .plan-core in let none = c .before .before .before .before .before .is-none in
-    report-refused (hall-refusal (a .file .now)) (hall-in (a .file .now)) (made .result) _ _ _ _ _ _ _ _
-    (full-lists (a .file .now) (made .result) _ _ _ _ _ _ _ _ refl refl refl refl (made .ensures))
-    (sym (none .ensures) ∙ not-true (none .result) (c .before .before .before .before .if1 .taken)) (a .out .now) _ _ (c .before .before .print-kind .ensures)
+returns c =
+    let test = c .before .before .before .before in
+    let none = test .before .is-none in
+    left (at-plan (test .before)) .refused (sym (none .ensures) ∙ not-true (none .result) (test .if1 .taken)) (c .before .before .print-kind .ensures)
 
 read-hall-requires : tie.Need-read-hall-requires
 read-hall-requires c κs = search needs
@@ -94,43 +106,47 @@ cast-n : tie.Need-cast-n
 cast-n c = search needs
 
 array-share-prefix-rows : tie.Need-array-share-prefix-rows
-array-share-prefix-rows c = lists (c .before .before .before .before .before .before) .rows-fit
+array-share-prefix-rows c = lists (at-hall c .before) .rows-fit
 
 slice-aggregate-print-plan : tie.Need-slice-aggregate-print-plan
-slice-aggregate-print-plan c = sym (length-take-le _ _ (lists (c .before .before .before .before .before .before .before) .rows-fit))
+slice-aggregate-print-plan c = sym (length-take-le _ _ (lists (at-hall (c .before) .before) .rows-fit))
 
 array-share-prefix-shores : tie.Need-array-share-prefix-shores
-array-share-prefix-shores c = lists (c .before .before .before .before .before .before .before) .shores-fit
+array-share-prefix-shores c = lists (at-hall (c .before) .before) .shores-fit
 
 slice-aggregate-print-plan-2 : tie.Need-slice-aggregate-print-plan-2
-slice-aggregate-print-plan-2 c = sym (length-take-le _ _ (lists (c .before .before .before .before .before .before .before .before) .shores-fit))
+slice-aggregate-print-plan-2 c = sym (length-take-le _ _ (lists (at-hall (c .before .before) .before) .shores-fit))
 
 array-share-prefix-weights : tie.Need-array-share-prefix-weights
-array-share-prefix-weights c = lists (c .before .before .before .before .before .before .before .before) .weights-fit
+array-share-prefix-weights c = lists (at-hall (c .before .before) .before) .weights-fit
 
 slice-aggregate-print-plan-3 : tie.Need-slice-aggregate-print-plan-3
-slice-aggregate-print-plan-3 c = sym (length-take-le _ _ (lists (c .before .before .before .before .before .before .before .before .before) .weights-fit))
+slice-aggregate-print-plan-3 c = sym (length-take-le _ _ (lists (at-hall (c .before .before .before) .before) .weights-fit))
 
 array-share-prefix-levels : tie.Need-array-share-prefix-levels
-array-share-prefix-levels c = lists (c .before .before .before .before .before .before .before .before .before) .levels-fit
+array-share-prefix-levels c = lists (at-hall (c .before .before .before) .before) .levels-fit
 
 slice-aggregate-print-plan-4 : tie.Need-slice-aggregate-print-plan-4
-slice-aggregate-print-plan-4 c = sym (length-take-le _ _ (lists (c .before .before .before .before .before .before .before .before .before .before) .levels-fit))
+slice-aggregate-print-plan-4 c = sym (length-take-le _ _ (lists (at-hall (at-cut c) .before) .levels-fit))
 
 print-plan-requires : tie.Need-print-plan-requires
-print-plan-requires c κs = let e = c .before .before .before .before .before .before .before .before .before .before in let got = c .before .before .before .before .before .before .before .before .before .read-hall in let sd = sound (file e) (fine e) in (
-  printable (hall-in (file e)) (sd .junctions-few) (sd .rows-few) (plan e) _ _ _ _ (lists e) (got .result .hall) (reply-record (hall-refusal (file e)) (hall-in (file e)) (got .result) (got .ensures) (fine e)),
-  c .before .before .before .before .before .before .before .before .before .before .before .before .before .before .before .before .before .before .before .before .before .before .before .pre,
-)
+print-plan-requires c κs =
+    let g = at-hall (at-cut c) in
+    let e = g .before in
+    let sd = sound (file (p e)) (fine e) in
+    (printable (sd .junctions-few) (sd .rows-few) (lists e) (hall-is g), at-start (p e) .pre)
 
 same-length-2 : tie.Need-same-length-2
 same-length-2 c = search needs
 
 returns-2 : tie.Need-returns-2
 unfolding Report-says
-returns-2 c = let e = c .before .before .before .before .before .before .before .before .before .before .before .before .before in let got = c .before .before .before .before .before .before .before .before .before .before .before .before .read-hall in let sd = sound (file e) (fine e) in
-    report-planned (hall-in (file e)) (sd .junctions-few) (sd .rows-few) (plan e) _ _ _ _ (lists e) (got .result .hall) (reply-record (hall-refusal (file e)) (hall-in (file e)) (got .result) (got .ensures) (fine e))
-    (hall-refusal (file e)) (none e) (c .before .before .before .before .before .before .before .before .before .before .before .before .before .before .before .before .before .before .before .before .before .before .before .before .before .before .args .out .now) _ _ (c .before .before .print-plan .ensures)
+returns-2 c =
+    let printed = c .before .before in
+    let g = at-hall (at-cut (printed .before)) in
+    let e = g .before in
+    let sd = sound (file (p e)) (fine e) in
+    report-planned (sd .junctions-few) (sd .rows-few) (lists e) (hall-is g) (hall-refusal (file (p e))) (none e) (printed .print-plan .ensures)
 
 pub report-spec : {M : Type 1} → statement M
 report-spec = tie.close (tie.spec slice-aggregate-plan-core slice-aggregate-plan-core-2 slice-aggregate-plan-core-3 slice-aggregate-plan-core-4 plan-core-requires is-none-requires print-kind-requires same-length returns read-hall-requires cast-chosen cast-cuts cast-n array-share-prefix-rows slice-aggregate-print-plan array-share-prefix-shores slice-aggregate-print-plan-2 array-share-prefix-weights slice-aggregate-print-plan-3 array-share-prefix-levels slice-aggregate-print-plan-4 print-plan-requires same-length-2 returns-2)

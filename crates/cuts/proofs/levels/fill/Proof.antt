@@ -47,7 +47,7 @@ level-sum-requires-2 c κs = search needs
 
 less-requires : tie.Need-less-requires Inv-loop μ-loop
 less-requires c κs = let l = at-loop c in let s = at-start l in
-    near-fits (cuts-at s) (l .loop .k) (c .level-sum2 .ensures) (at-base l .level-sum .ensures) (s .args .n) (s .pre .5) (c .before .loop-test .taken)
+    near-fits (cuts-at s) (l .loop .k) (c .level-sum2 .ensures) (at-base l .level-sum .ensures) (s .args .n) (s .pre .5) (omega arith)
 
 mul-t10 : tie.Need-mul-t10 Inv-loop μ-loop
 mul-t10 c = search needs
