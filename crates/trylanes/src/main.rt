@@ -1,0 +1,5 @@
+// Trial
+mod lending;
+
+fn main() {
+}
