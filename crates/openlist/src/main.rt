@@ -1,7 +1,6 @@
 // Reads a hall from standard input and prints its list: the rows to open, their total, the cuts and the levels. Where the input
 // cannot be read to its end it prints nothing, and standard error says why.
 use libc::STDIN_FILENO;
-use libc::STDOUT_FILENO;
 
 fn main() {
     let mut file = [0u8; 65_537];
@@ -11,7 +10,5 @@ fn main() {
         return;
     }
     let size = read.size;
-    let mut out = io::large_buffer();
-    let length = report::report(&file[..size], &mut out);
-    io::write_all(STDOUT_FILENO, &out[..length]);
+    output::print_list(&file[..size]);
 }
