@@ -9,11 +9,11 @@ fn print_check(file: &[u8], rows: [u32; 257], count: usize)
 }
 
 fn check_pair(name: &[u8], rows: &[u8]) {
-    let read = console::read_file(name);
-    if !read.opened {
+    let mut file = [0u8; 65_537];
+    let read = input::read_file(name, &mut file);
+    if read.failed {
         return;
     }
-    let file = read.bytes;
     let size = read.size;
     let numbers = console::numbers_in(rows);
     let list = numbers.list;

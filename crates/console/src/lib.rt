@@ -1,6 +1,5 @@
-// What the programs share: numbers from text, the bytes of a file, and the lines that they print.
+// What the programs share: numbers from text, and the lines that they print.
 ghost use Prim.Native.Nat.{_≤_};
-ghost use Rattle.io.specs.Counts.{Counts};
 use answers::Finding;
 use answers::Told;
 use junctions::Junctions;
@@ -110,34 +109,4 @@ pub fn print_told(told: Told) {
         return;
     }
     print_refusal(refusals::number_of(refusal), refusals::row_of(refusal));
-}
-
-// A file's bytes, as many as one more than a hall file may have.
-pub struct Contents {
-    pub bytes: [u8; 65_537],
-    pub size: usize,
-    pub opened: bool,
-}
-
-// Where the file cannot be opened, standard error says why.
-pub fn read_file(name: &[u8]) -> Contents
-    ensures { λ r. ⌜ Counts (r .size) (r .bytes) ⌝ }
-{
-    let mut bytes = [0u8; 65_537];
-    let fd = os::open_read(name);
-    if fd < 0 {
-        os::fail(name);
-        return Contents {
-            bytes,
-            size: 0,
-            opened: false,
-        };
-    }
-    let size = io::read_full(fd, &mut bytes);
-    libc::close(fd);
-    Contents {
-        bytes,
-        size,
-        opened: true,
-    }
 }

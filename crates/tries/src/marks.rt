@@ -17,9 +17,9 @@ pub fn numbers_kept(numbers: &[u32], from: usize) -> bool {
     true
 }
 
-pub fn shores_kept(shores: [u64; 125], from: usize) -> bool {
+pub fn shores_kept(shores: [u64; 126], from: usize) -> bool {
     let mut i = from;
-    while i < 125 {
+    while i < 126 {
         if shores[i] != SHORE {
             return false;
         }

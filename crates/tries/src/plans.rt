@@ -5,8 +5,8 @@ use planning::Planned;
 
 pub struct Lists {
     pub rows: [u32; 256],
-    pub shores: [u64; 125],
-    pub weights: [u32; 125],
+    pub shores: [u64; 126],
+    pub weights: [u32; 126],
     pub levels: [i32; 64],
 }
 
@@ -18,11 +18,11 @@ pub struct Tried {
 
 // The plan with the first places of each list lent, as many as said.
 pub fn plan(file: &[u8], rows: usize, shores: usize, weights: usize, levels: usize) -> Tried
-    requires { ⌜ (rows ≤ 256) × (shores ≤ 125) × (weights ≤ 125) × (levels ≤ 64) ⌝ }
+    requires { ⌜ (rows ≤ 256) × (shores ≤ 126) × (weights ≤ 126) × (levels ≤ 64) ⌝ }
 {
     let mut row_list = [marks::NUMBER; 256];
-    let mut shore_list = [marks::SHORE; 125];
-    let mut weight_list = [marks::NUMBER; 125];
+    let mut shore_list = [marks::SHORE; 126];
+    let mut weight_list = [marks::NUMBER; 126];
     let mut level_list = [marks::LEVEL; 64];
     let planned = planning::plan_core(
         file,

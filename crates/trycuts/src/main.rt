@@ -90,11 +90,11 @@ fn plan_file(file: &[u8]) {
 }
 
 fn plan_named(name: &[u8]) {
-    let read = console::read_file(name);
-    if !read.opened {
+    let mut file = [0u8; 65_537];
+    let read = input::read_file(name, &mut file);
+    if read.failed {
         return;
     }
-    let file = read.bytes;
     let size = read.size;
     plan_file(&file[..size]);
 }

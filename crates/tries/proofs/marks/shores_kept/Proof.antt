@@ -8,7 +8,7 @@ abbrev Inv-loop : tie.InvT-loop
 Inv-loop from shores i₀ i = from ≤ i
 
 abbrev μ-loop : tie.MeasureT-loop
-μ-loop from shores i₀ i = 125 - i
+μ-loop from shores i₀ i = 126 - i
 
 loop-holds : tie.Need-loop-holds Inv-loop μ-loop
 loop-holds c = search needs
