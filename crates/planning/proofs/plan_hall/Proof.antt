@@ -1,6 +1,7 @@
 -- `planning::plan_hall` meets its contract: what each stage leaves is the plan. Assumes nothing.
 use native.Mathlib.Omega.{arith}
 use borrow.Author.Needs.{needs}
+use Prim.Native.Nat.{_≤_}
 use Rattle.hall.specs.Hall.{Hall}
 use Rattle.hall.specs.File.{hall-in}
 use Rattle.hall.specs.Plan.{First}
@@ -166,22 +167,34 @@ module _ (c : tie.After-first-choice) (k : Hall) (rd : Holds (from-first (c .bef
       (least .around)
 
 list-rows-requires : tie.Need-list-rows-requires
-list-rows-requires c κs = let s = from-rows c in (ends s .few, omega (arith, ends s .few, s .pre .0))
+list-rows-requires c κs = let s = from-rows c in (omega (arith, ends s .few), omega (arith, ends s .few, s .pre .0))
 
 total-of-requires : tie.Need-total-of-requires
 total-of-requires c κs = let s = from-total c in (ends s .few, prices-low s)
 
+-- how many rows and cuts are listed, and junctions levelled, at the end
+module _ (c : tie.After-total-of) where
+  abbrev listed-rows : tie.After-list-rows
+  listed-rows = at-rows (c .before)
+
+  abbrev filled : tie.After-fill
+  filled = at-cuts (at-costs (at-scaled (at-first (listed-rows .before) .before) .before) .before)
+
+  counts-few : (listed-rows .list-rows .result ≤ 256) × (filled .fill .result ≤ 125) × (hall (from-total (c .before)) .n ≤ 64)
+  counts-few =
+      let s = from-cuts (filled .before) in
+      (omega (arith, listed-rows .list-rows .ensures .0, ends s .few),
+      filled .fill .ensures (h s) (flagged (at-least (filled .before) .cheapest .result .chosen)) (beside (filled .before) (h s) (is-ready s)) highest (levels-under (filled .before) (h s) (is-ready s)) .0 .few,
+      ends s .size)
+
 cast-t52 : tie.Need-cast-t52
-cast-t52 c = omega (arith, at-rows (c .before) .list-rows .ensures .0, ends (from-total (c .before)) .few)
+cast-t52 c = omega (arith, counts-few c, ends (from-total (c .before)) .few)
 
 cast-t53 : tie.Need-cast-t53
-cast-t53 c =
-    let cuts = at-cuts (at-costs (at-scaled (at-first (at-rows (c .before) .before) .before) .before) .before) in
-    let s = from-cuts (cuts .before) in
-    omega (arith, cuts .fill .ensures (h s) (flagged (at-least (cuts .before) .cheapest .result .chosen)) (beside (cuts .before) (h s) (is-ready s)) highest (levels-under (cuts .before) (h s) (is-ready s)) .0 .few)
+cast-t53 c = omega (arith, counts-few c, ends (from-total (c .before)) .few)
 
 cast-t54 : tie.Need-cast-t54
-cast-t54 c = omega (arith, ends (from-total (c .before)) .size)
+cast-t54 c = omega (arith, counts-few c, ends (from-total (c .before)) .few)
 
 same-length : tie.Need-same-length
 same-length c = search needs
@@ -197,8 +210,8 @@ same-length-4 c = search needs
 
 returns : tie.Need-returns
 returns c =
-    let rows = at-rows (c .before) in let first = at-first (rows .before) in
-    let cuts = at-cuts (at-costs (at-scaled (first .before) .before) .before) in let fill = cuts .before in
+    let rows = listed-rows c in let first = at-first (rows .before) in
+    let cuts = filled c in let fill = cuts .before in
     let s = from-cuts fill in let a = s .args in let x = hall s in let found = at-least fill .cheapest .result in
     λ bs fine is.
     let k = hall-in bs in let rd = ready bs fine x is in
