@@ -51,8 +51,8 @@ at-scaled c = c .before .before .before .before
 abbrev at-first : tie.After-list-rows-arg → tie.After-first-choice
 at-first c = c .before .before
 
-abbrev at-rows : tie.After-first2 → tie.After-list-rows
-at-rows c = c .before .before .before .before .before
+abbrev at-rows : tie.After-total-of-arg → tie.After-list-rows
+at-rows c = c .before .before .before .before
 
 -- the start, from each call
 abbrev from-prices : tie.After-price-costs-arg → tie.Start
@@ -73,7 +73,7 @@ from-first c = from-costs (at-costs (at-scaled c .before) .before)
 abbrev from-rows : tie.After-list-rows-arg → tie.Start
 from-rows c = from-first (at-first c .before)
 
-abbrev from-total : tie.After-first2 → tie.Start
+abbrev from-total : tie.After-total-of-arg → tie.Start
 from-total c = from-rows (at-rows c .before)
 
 -- the hall that was read
@@ -170,17 +170,17 @@ list-rows-requires : tie.Need-list-rows-requires
 list-rows-requires c κs = let s = from-rows c in (omega (arith, ends s .few), omega (arith, ends s .few, s .pre .0))
 
 total-of-requires : tie.Need-total-of-requires
-total-of-requires c κs = let s = from-total c in (ends s .few, prices-low s)
+total-of-requires c κs = let s = from-total (c .before) in (ends s .few, prices-low s)
 
 -- how many rows and cuts are listed, and junctions levelled, at the end
 module _ (c : tie.After-total-of) where
   abbrev listed-rows : tie.After-list-rows
-  listed-rows = at-rows (c .before)
+  listed-rows = at-rows (c .before .before)
 
   abbrev filled : tie.After-fill
   filled = at-cuts (at-costs (at-scaled (at-first (listed-rows .before) .before) .before) .before)
 
-  counts-few : (listed-rows .list-rows .result ≤ 256) × (filled .fill .result ≤ 125) × (hall (from-total (c .before)) .n ≤ 64)
+  counts-few : (listed-rows .list-rows .result ≤ 256) × (filled .fill .result ≤ 125) × (hall (from-total (c .before .before)) .n ≤ 64)
   counts-few =
       let s = from-cuts (filled .before) in
       (omega (arith, listed-rows .list-rows .ensures .0, ends s .few),
@@ -188,13 +188,13 @@ module _ (c : tie.After-total-of) where
       ends s .size)
 
 cast-t52 : tie.Need-cast-t52
-cast-t52 c = omega (arith, counts-few c, ends (from-total (c .before)) .few)
+cast-t52 c = omega (arith, counts-few c, ends (from-total (c .before .before)) .few)
 
 cast-t53 : tie.Need-cast-t53
-cast-t53 c = omega (arith, counts-few c, ends (from-total (c .before)) .few)
+cast-t53 c = omega (arith, counts-few c, ends (from-total (c .before .before)) .few)
 
 cast-t54 : tie.Need-cast-t54
-cast-t54 c = omega (arith, counts-few c, ends (from-total (c .before)) .few)
+cast-t54 c = omega (arith, counts-few c, ends (from-total (c .before .before)) .few)
 
 same-length : tie.Need-same-length
 same-length c = search needs
