@@ -1,7 +1,12 @@
 -- Row_arcs adds the arcs of one row a turn. The invariant: the sets hold the arcs of the first k rows. The measure is the rows to come. Assumes nothing.
-use Prim.Native.Nat.{ℕ, _-_, _≤_}
+use mathlib.Core.Path.{_≡_, ap, _∙_}
+use mathlib.Core.Bool.{Bool, false, _&&_}
+use Prim.Native.Nat.{ℕ, suc, _+_, _-_, _≤_}
 use native.Mathlib.Omega.{arith}
+use lib.Dec.{eqb}
+use lib.ListN.{getD}
 use borrow.Author.Needs.{needs}
+use Rattle.junctions.specs.Sets.{holds}
 use Rattle.hall.specs.Hall.{Hall}
 use Rattle.columns.specs.Columns.{at, flagged, Columns}
 use Rattle.zerograph.specs.Zero.{Row-arcs}
@@ -19,8 +24,11 @@ abbrev μ-loop : tie.MeasureT-loop
 abbrev at-row : tie.After-place2 Inv-loop μ-loop → tie.In-loop Inv-loop μ-loop
 at-row c = c .before .before .before .before
 
-abbrev at-ends : tie.After-lone-arg4 Inv-loop μ-loop → tie.After-place2 Inv-loop μ-loop
-at-ends c = c .before .before .before .before
+abbrev at-ends : tie.After-no-gap-arg3 Inv-loop μ-loop → tie.After-place2 Inv-loop μ-loop
+at-ends c = c .before .before .before
+
+abbrev at-gap : tie.After-lone Inv-loop μ-loop → tie.After-no-gap Inv-loop μ-loop
+at-gap c = c .before .before
 
 abbrev at-opened : tie.After-lone2 Inv-loop μ-loop → tie.After-lone Inv-loop μ-loop
 at-opened c = c .before .before .before
@@ -42,30 +50,29 @@ place-requires-2 : tie.Need-place-requires-2 Inv-loop μ-loop
 place-requires-2 c κs = let row = c .before .before .before in let l = row .before in let s = l .before in
     (s .pre .0 .head-low (l .loop .k) (row .loop-test .taken), s .pre .0 .head-high (l .loop .k) (row .loop-test .taken))
 
+mul-no-gap : tie.Need-mul-no-gap Inv-loop μ-loop
+mul-no-gap c = search needs
+
+element-copy-out-no-gap : tie.Need-element-copy-out-no-gap Inv-loop μ-loop
+element-copy-out-no-gap c = search needs
+
+mul-no-gap-2 : tie.Need-mul-no-gap-2 Inv-loop μ-loop
+mul-no-gap-2 c = search needs
+
+element-copy-out-no-gap-2 : tie.Need-element-copy-out-no-gap-2 Inv-loop μ-loop
+element-copy-out-no-gap-2 c = search needs
+
+mul-no-gap-3 : tie.Need-mul-no-gap-3 Inv-loop μ-loop
+mul-no-gap-3 c = search needs
+
+element-copy-out-no-gap-3 : tie.Need-element-copy-out-no-gap-3 Inv-loop μ-loop
+element-copy-out-no-gap-3 c = search needs
+
+no-gap-requires : tie.Need-no-gap-requires Inv-loop μ-loop
+no-gap-requires c κs = let l = at-row (at-ends c) .before in let s = l .before in omega (arith, s .pre .1 (l .loop .k), s .pre .2 (at-ends c .before .before .place .result))
+
 element-copy-out-lone : tie.Need-element-copy-out-lone Inv-loop μ-loop
 element-copy-out-lone c = search needs
-
-mul-lone : tie.Need-mul-lone Inv-loop μ-loop
-mul-lone c = search needs
-
-element-copy-out-lone-2 : tie.Need-element-copy-out-lone-2 Inv-loop μ-loop
-element-copy-out-lone-2 c = search needs
-
-mul-lone-2 : tie.Need-mul-lone-2 Inv-loop μ-loop
-mul-lone-2 c = search needs
-
-element-copy-out-lone-3 : tie.Need-element-copy-out-lone-3 Inv-loop μ-loop
-element-copy-out-lone-3 c = search needs
-
-mul-lone-3 : tie.Need-mul-lone-3 Inv-loop μ-loop
-mul-lone-3 c = search needs
-
-element-copy-out-lone-4 : tie.Need-element-copy-out-lone-4 Inv-loop μ-loop
-element-copy-out-lone-4 c = search needs
-
-add-lone : tie.Need-add-lone Inv-loop μ-loop
-add-lone c = let l = at-row (at-ends c) .before in let s = l .before in
-    record { fits = omega (arith, s .pre .1 (l .loop .k), s .pre .2 (at-ends c .before .before .place .result)) }
 
 lone-requires : tie.Need-lone-requires Inv-loop μ-loop
 lone-requires c κs = search needs
@@ -82,11 +89,11 @@ mul-arcs-2 c = search needs
 array-write-arcs : tie.Need-array-write-arcs Inv-loop μ-loop
 array-write-arcs c = search needs
 
-element-copy-out-lone-5 : tie.Need-element-copy-out-lone-5 Inv-loop μ-loop
-element-copy-out-lone-5 c = search needs
+element-copy-out-lone-2 : tie.Need-element-copy-out-lone-2 Inv-loop μ-loop
+element-copy-out-lone-2 c = search needs
 
-element-copy-out-lone-6 : tie.Need-element-copy-out-lone-6 Inv-loop μ-loop
-element-copy-out-lone-6 c = search needs
+element-copy-out-lone-3 : tie.Need-element-copy-out-lone-3 Inv-loop μ-loop
+element-copy-out-lone-3 c = search needs
 
 lone-requires-2 : tie.Need-lone-requires-2 Inv-loop μ-loop
 lone-requires-2 c κs = search needs
@@ -111,13 +118,15 @@ loop-less c = search needs
 
 loop-again : tie.Need-loop-again Inv-loop μ-loop
 loop-again c =
-    let opened = at-opened c .lone in let closed = c .lone2 in
-    let ends = at-ends (at-opened c .before) in let tail = ends .before .before .place in let head = ends .place2 in
-    let row = at-row ends in let l = row .before .loop in let a = row .before .before .args in (
+    let closed = c .lone2 in let opened = at-opened c .lone in let gap = at-gap (at-opened c) .no-gap in
+    let ends = at-ends (at-gap (at-opened c) .before) in let tail = ends .before .before .place in let head = ends .place2 in
+    let row = at-row ends in let l = row .before .loop in let a = row .before .before .args in
+    let open-is : (i : ℕ) → 1 ≤ i → holds (opened .result) i ≡ ((getD (a .movable .now) (l .k) false && eqb (getD (a .potential .now) (head .result) 0) (getD (a .potential .now) (tail .result) 0 + getD (a .costs .now) (l .k) 0)) && eqb i (suc (tail .result))) =
+    λ i low. opened .ensures i low ∙ ap (λ (b : Bool). (getD (a .movable .now) (l .k) false && b) && eqb i (suc (tail .result))) (gap .ensures) in (
       omega arith,
       λ h n cols. row-arcs-more h n (a .count) (a .tails .now) (a .heads .now) (a .costs .now) (a .movable .now) (a .chosen .now) (a .potential .now) cols
           (l .k) (tail .result) (head .result) (row .loop-test .taken) (tail .ensures .0) (head .ensures .0) (l .arcs)
-          (opened .result) (closed .result) (tail .ensures .1) (head .ensures .1) (opened .ensures) (closed .ensures) (l .inv .1 h n cols),
+          (opened .result) (closed .result) (tail .ensures .1) (head .ensures .1) open-is (closed .ensures) (l .inv .1 h n cols),
     )
 
 returns : tie.Need-returns Inv-loop μ-loop
@@ -135,21 +144,21 @@ row-arcs-spec =
     place-requires
     element-copy-out-place-2
     place-requires-2
+    mul-no-gap
+    element-copy-out-no-gap
+    mul-no-gap-2
+    element-copy-out-no-gap-2
+    mul-no-gap-3
+    element-copy-out-no-gap-3
+    no-gap-requires
     element-copy-out-lone
-    mul-lone
-    element-copy-out-lone-2
-    mul-lone-2
-    element-copy-out-lone-3
-    mul-lone-3
-    element-copy-out-lone-4
-    add-lone
     lone-requires
     mul-arcs
     array-read-arcs
     mul-arcs-2
     array-write-arcs
-    element-copy-out-lone-5
-    element-copy-out-lone-6
+    element-copy-out-lone-2
+    element-copy-out-lone-3
     lone-requires-2
     mul-arcs-3
     array-read-arcs-2
