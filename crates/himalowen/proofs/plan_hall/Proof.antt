@@ -50,8 +50,11 @@ at-scaled c = c .before .before .before .before
 abbrev at-first : tie.After-list-rows-arg → tie.After-first-choice
 at-first c = c .before .before
 
-abbrev at-rows : tie.After-first2 → tie.After-list-rows
-at-rows c = c .before .before .before .before .before
+abbrev at-rows : tie.After-hall6 → tie.After-list-rows
+at-rows c = c .before .before .before
+
+abbrev at-total : tie.After-total-of → tie.After-hall6
+at-total c = c .before .before .before
 
 -- the start, from each call
 abbrev from-prices : tie.After-price-costs-arg → tie.Start
@@ -72,7 +75,7 @@ from-first c = from-costs (at-costs (at-scaled c .before) .before)
 abbrev from-rows : tie.After-list-rows-arg → tie.Start
 from-rows c = from-first (at-first c .before)
 
-abbrev from-total : tie.After-first2 → tie.Start
+abbrev from-total : tie.After-hall6 → tie.Start
 from-total c = from-rows (at-rows c .before)
 
 -- the hall that was read
@@ -169,19 +172,19 @@ list-rows-requires : tie.Need-list-rows-requires
 list-rows-requires c κs = let s = from-rows c in (ends s .few, omega (arith, ends s .few, s .pre .0))
 
 total-of-requires : tie.Need-total-of-requires
-total-of-requires c κs = let s = from-total c in (ends s .few, prices-low s)
+total-of-requires c κs = let s = from-total (c .before .before) in (ends s .few, prices-low s)
 
 cast-t52 : tie.Need-cast-t52
-cast-t52 c = omega (arith, at-rows (c .before) .list-rows .ensures .0, ends (from-total (c .before)) .few)
+cast-t52 c = omega (arith, at-rows (at-total c) .list-rows .ensures .0, ends (from-total (at-total c)) .few)
 
 cast-t53 : tie.Need-cast-t53
 cast-t53 c =
-    let cuts = at-cuts (at-costs (at-scaled (at-first (at-rows (c .before) .before) .before) .before) .before) in
+    let cuts = at-cuts (at-costs (at-scaled (at-first (at-rows (at-total c) .before) .before) .before) .before) in
     let s = from-cuts (cuts .before) in
     omega (arith, cuts .fill .ensures (h s) (flagged (at-least (cuts .before) .cheapest .result .chosen)) (beside (cuts .before) (h s) (is-ready s)) highest (levels-under (cuts .before) (h s) (is-ready s)) .0 .few)
 
 cast-t54 : tie.Need-cast-t54
-cast-t54 c = omega (arith, ends (from-total (c .before)) .size)
+cast-t54 c = omega (arith, ends (from-total (at-total c)) .size)
 
 same-length : tie.Need-same-length
 same-length c = search needs
@@ -197,7 +200,7 @@ same-length-4 c = search needs
 
 returns : tie.Need-returns
 returns c =
-    let rows = at-rows (c .before) in let first = at-first (rows .before) in
+    let rows = at-rows (at-total c) in let first = at-first (rows .before) in
     let cuts = at-cuts (at-costs (at-scaled (first .before) .before) .before) in let fill = cuts .before in
     let s = from-cuts fill in let a = s .args in let x = hall s in let found = at-least fill .cheapest .result in
     λ bs fine is.
