@@ -1,4 +1,5 @@
 // The first choice of least ranked cost: row by row, each is decided for good.
+// It stands on the zero graph, the flip and the raise; `First` is that of `hall`.
 use flip::flip;
 use junctions::has;
 use junctions::place;

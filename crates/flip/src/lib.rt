@@ -1,6 +1,7 @@
 // The flip of a route in the zero graph: the rows of its arcs are looked up and opened or closed.
 // It walks back along the distances of `digraph`; the legs and the flip are those of `potentials`.
 use junctions::place;
+use zerograph::no_gap;
 ghost use mathlib.Core.Path.{_≡_};
 ghost use Prim.Native.Nat.{ℕ, suc, _≤_, _<_};
 ghost use lib.ListN.{length};
@@ -34,7 +35,7 @@ pub fn opening<'a>(
     while k < count {
         let tail = place(tails[k]);
         let head = place(heads[k]);
-        let may = movable[k] & (potential[head] == potential[tail] + costs[k]);
+        let may = movable[k] & no_gap(potential[tail], costs[k], potential[head]);
         if (x - 1 == head) & (may & (y == tail + 1)) {
             return k;
         }

@@ -1,4 +1,5 @@
 // A joining choice to start from: of rows that join each is dropped, dearest first, if the others still join.
+// It stands on the arcs of rows (`adjacency`, `tight`) and what they reach (`digraph`); `Joining` is that of `dicuts`.
 use junctions::place;
 ghost use mathlib.Core.Path.{_≡_};
 ghost use mathlib.Core.Bool.{true};

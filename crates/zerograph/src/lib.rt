@@ -5,7 +5,7 @@ use junctions::lowest;
 use junctions::place;
 ghost use mathlib.Core.Path.{_≡_};
 ghost use mathlib.Core.Bool.{_&&_, cond};
-ghost use Prim.Native.Nat.{ℕ, _%_, _^_, _≤_, _<_};
+ghost use Prim.Native.Nat.{ℕ, _+_, _%_, _^_, _≤_, _<_};
 ghost use lib.Dec.{eqb};
 ghost use Rattle.junctions.specs.Sets.{holds};
 ghost use Rattle.hall.specs.Hall.{Hall};
@@ -13,6 +13,14 @@ ghost use Rattle.columns.specs.Columns.{at, flagged, Ends, Columns, Neighbourho
 ghost use Rattle.zerograph.specs.Low.{Low};
 ghost use Rattle.zerograph.specs.Levels.{Levels};
 ghost use Rattle.zerograph.specs.Zero.{Row-arcs, Zero-graph};
+
+// A row of this cost, from the low potential to the high one, has no gap.
+pub fn no_gap(low: u64, cost: u64, high: u64) -> bool
+    requires { ⌜ low + cost < 2 ^ 64 ⌝ }
+    ensures { λ r. ⌜ r ≡ eqb high (low + cost) ⌝ }
+{
+    high == low + cost
+}
 
 // The arcs that rows make: a movable row without a gap from its head to its tail, a chosen movable one from its tail to its head.
 pub fn row_arcs<'a>(
@@ -33,10 +41,8 @@ pub fn row_arcs<'a>(
     while k < count {
         let tail = place(tails[k]);
         let head = place(heads[k]);
-        let opened = lone(
-            movable[k] & (potential[head] == potential[tail] + costs[k]),
-            tail,
-        );
+        let opens = no_gap(potential[tail], costs[k], potential[head]);
+        let opened = lone(movable[k] & opens, tail);
         arcs[head] = arcs[head] | opened;
         let closed = lone(movable[k] & chosen[k], head);
         arcs[tail] = arcs[tail] | closed;

@@ -17,6 +17,16 @@ use Rattle.first.proofs.Steps.{raised-rise, raised-out, flipped-in}
 use Rattle.first.proofs.change.Statement.{statement}
 use Rattle.first.proofs.change.Tie as tie
 
+-- the places of the code: the graph, what is reached and the distances, from the ones after them
+abbrev at-graph : tie.After-reach → tie.After-zero-graph
+at-graph c = c .before .before
+
+abbrev at-reach : tie.After-distances → tie.After-reach
+at-reach c = c .before .before .before .before
+
+abbrev at-distances : tie.After-distances2 → tie.After-distances
+at-distances c = c .before .before
+
 zero-graph-requires : tie.Need-zero-graph-requires
 zero-graph-requires c κs = search needs
 
@@ -43,14 +53,14 @@ add-flip-2 c = search needs
 
 flip-requires : tie.Need-flip-requires
 flip-requires c κs =
-    let d = c .before .before in
+    let d = at-distances c in
+    let words : (j : ℕ) → Fits w64 (getD (at-graph (at-reach (at-distances c)) .zero-graph .result) j 0) = λ j. search needs in
     let i = d .before .before in
     let f = i .before in
-    let r = f .before in
-    let z = r .before .before in
+    let r = at-reach d in
+    let z = at-graph r in
     let s = z .before in
     let a = s .args in
-    let words : (j : ℕ) → Fits w64 (getD (z .zero-graph .result) j 0) = λ j. search needs in
     let start : Reach 64 (out-of (z .zero-graph .result)) (2 ^ (a .tail + 1 - 1)) (r .reach .result) =
     let place : a .tail + 1 - 1 ≡ a .tail = omega arith in rw place (rw (one-shl (a .tail) (s .pre .6)) at (r .reach .ensures)) in (
       ends-wide (a .n) (a .m) (a .tails .now) (a .heads .now) (s .pre .0),
@@ -71,9 +81,9 @@ neighbourhoods-requires c κs = search needs
 returns : tie.Need-returns
 returns c =
     let y = c .before in
-    let x = y .before .before in
-    let d = x .before .before .before in
-    let z = d .before .before .before .before .before .before in
+    let x = c .before .before .before in
+    let d = at-distances (x .before) in
+    let z = at-graph (at-reach d) in
     let s = z .before in
     let a = s .args in
     let p = s .pre in (
@@ -92,7 +102,7 @@ returns c =
 
 raise-requires : tie.Need-raise-requires
 raise-requires c κs =
-    let s = c .before .before .before .before .before in
+    let s = at-graph (c .before .before) .before in
     λ k. omega (arith, s .pre .2 k)
 
 returns-2 : tie.Need-returns-2
@@ -101,7 +111,7 @@ returns-2 c =
     let i = x .before in
     let f = i .before in
     let r = f .before in
-    let z = r .before .before in
+    let z = at-graph r in
     let s = z .before in
     let a = s .args in
     let p = s .pre in (

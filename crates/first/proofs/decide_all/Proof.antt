@@ -1,4 +1,4 @@
--- `first::decide_all` meets its contract: after k turns the first k rows are decided. Assumes nothing.
+-- `first::decide_all` decides one row a turn. The invariant: the first k rows are decided and no longer movable, and no level has grown by more than k. The measure is the rows to come. Assumes nothing.
 use mathlib.Core.Bool.{false}
 use mathlib.Core.Logic.{⊎-elim}
 use mathlib.Core.Path.{_≡_, refl, _∙_}
@@ -30,6 +30,22 @@ Inv-loop n m tails heads costs chosen potential around state₀ movable₀ k₀ 
 abbrev μ-loop : tie.MeasureT-loop
 μ-loop n m tails heads costs chosen potential around state₀ movable₀ k₀ state movable k = m - k
 
+-- the places of the code: the start, the row of a turn and its ends, from the ones after them
+abbrev at-start : tie.At-loop Inv-loop μ-loop → tie.Start Inv-loop μ-loop
+at-start c = c .before .before .before .before
+
+abbrev at-tail : tie.After-place2 Inv-loop μ-loop → tie.After-place Inv-loop μ-loop
+at-tail c = c .before .before
+
+abbrev at-loop : tie.After-place2 Inv-loop μ-loop → tie.At-loop Inv-loop μ-loop
+at-loop c = at-tail c .before .before .before
+
+abbrev at-ends : tie.After-if15 Inv-loop μ-loop → tie.After-place2 Inv-loop μ-loop
+at-ends c = c .before .before .before .before
+
+abbrev at-test : tie.After-change-arg3 Inv-loop μ-loop → tie.Then1 Inv-loop μ-loop
+at-test c = c .before .before .before .before .before
+
 loop-holds : tie.Need-loop-holds Inv-loop μ-loop
 loop-holds c =
     let s = c .before .before .before in
@@ -53,7 +69,7 @@ element-copy-out-place c = search needs
 place-requires : tie.Need-place-requires Inv-loop μ-loop
 place-requires c κs =
     let l = c .before .before in
-    let s = l .before .before .before .before in
+    let s = at-start l in
     let a = s .args in
     let e = ends-wide (a .n) (a .m) (a .tails .now) (a .heads .now) (s .pre .0) in
     (e .tail-low (l .loop .k) (omega arith), e .tail-high (l .loop .k) (omega arith))
@@ -64,7 +80,7 @@ element-copy-out-place-2 c = search needs
 place-requires-2 : tie.Need-place-requires-2 Inv-loop μ-loop
 place-requires-2 c κs =
     let l = c .before .before .before .before in
-    let s = l .before .before .before .before in
+    let s = at-start l in
     let a = s .args in
     let e = ends-wide (a .n) (a .m) (a .tails .now) (a .heads .now) (s .pre .0) in
     (e .head-low (l .loop .k) (omega arith), e .head-high (l .loop .k) (omega arith))
@@ -92,19 +108,19 @@ element-copy-out-if1-4 c = search needs
 
 add-if1 : tie.Need-add-if1 Inv-loop μ-loop
 add-if1 c =
-    let u = c .before .before .before .before .before .before in
-    let l = u .before .before .before in
-    let s = l .before .before .before .before in
+    let u = at-tail (at-ends c) in
+    let l = at-loop (at-ends c) in
+    let s = at-start l in
     let v = l .loop .inv in
     record { fits = omega (arith, s .pre .1 (l .loop .k), s .pre .2 (u .place .result), v .4 (u .place .result), s .pre .0 .few) }
 
 change-requires : tie.Need-change-requires Inv-loop μ-loop
 change-requires c κs =
-    let i = c .before .before .before .before .before in
-    let w = i .before .before .before .before .before in
-    let u = w .before .before in
-    let l = u .before .before .before in
-    let s = l .before .before .before .before in
+    let i = at-test c in
+    let w = at-ends (i .before) in
+    let u = at-tail w in
+    let l = at-loop w in
+    let s = at-start l in
     let a = s .args in
     let v = l .loop .inv in (
       s .pre .0,
@@ -131,10 +147,10 @@ loop-less c = search needs
 
 loop-again : tie.Need-loop-again Inv-loop μ-loop
 loop-again c =
-    let w = c .before .before .before .before .before in
-    let u = w .before .before in
-    let l = u .before .before .before in
-    let s = l .before .before .before .before in
+    let w = at-ends (c .before) in
+    let u = at-tail w in
+    let l = at-loop w in
+    let s = at-start l in
     let a = s .args in
     let v = l .loop .inv in
     let size = length-set (l .loop .movable) (l .loop .k) false ∙ v .1 in
@@ -172,7 +188,7 @@ loop-again c =
 returns : tie.Need-returns Inv-loop μ-loop
 returns c =
     let l = c .before .before in
-    let s = l .before .before .before .before in
+    let s = at-start l in
     let a = s .args in
     let end : l .loop .k ≡ a .m = omega arith in
     λ h cols rg is done near.

@@ -1,10 +1,12 @@
--- Closing finds the first row: none before place k may be closed. Assumes nothing.
+-- Closing asks one row a turn. The invariant: none before place k may be closed on the way. The measure is the rows to come. Assumes nothing.
 use mathlib.Core.Path.{_≡_, sym, _∙_}
-use mathlib.Core.Bool.{false}
+use mathlib.Core.Bool.{false, _&&_}
 use mathlib.Core.List.{[]}
-use Prim.Native.Nat.{ℕ, suc, _-_, _≤_, _<_}
+use Prim.Native.Nat.{ℕ, suc, _+_, _-_, _≤_, _<_}
 use native.Mathlib.Numerals.{add-one}
 use native.Mathlib.Omega.{arith}
+use lib.Dec.{eqb}
+use lib.ListN.{getD}
 use borrow.Author.Count.{below-more}
 use borrow.Author.Needs.{needs}
 use Rattle.laws.proofs.First.{first-more, first-none}
@@ -21,6 +23,13 @@ Inv-loop count tails heads movable chosen x y k₀ k = (k ≤ count) × ((h : Ha
 abbrev μ-loop : tie.MeasureT-loop
 μ-loop count tails heads movable chosen x y k₀ k = count - k
 
+-- the places of the code: the row of a turn and its ends, from the ones after them
+abbrev at-row : tie.After-place2 Inv-loop μ-loop → tie.In-loop Inv-loop μ-loop
+at-row c = c .before .before .before .before
+
+abbrev at-ends : tie.After-may2 Inv-loop μ-loop → tie.After-place2 Inv-loop μ-loop
+at-ends c = c .before .before
+
 loop-holds : tie.Need-loop-holds Inv-loop μ-loop
 loop-holds c = (omega arith, λ h n cols i l. absurd (omega arith))
 
@@ -28,15 +37,15 @@ element-copy-out-place : tie.Need-element-copy-out-place Inv-loop μ-loop
 element-copy-out-place c = search needs
 
 place-requires : tie.Need-place-requires Inv-loop μ-loop
-place-requires c κs = let s = c .before .before .before in let k = c .before .before .loop .k in let less = c .before .loop-test .taken in
-    (s .pre .0 .tail-low k less, s .pre .0 .tail-high k less)
+place-requires c κs = let row = c .before in let l = row .before in let s = l .before in
+    (s .pre .0 .tail-low (l .loop .k) (row .loop-test .taken), s .pre .0 .tail-high (l .loop .k) (row .loop-test .taken))
 
 element-copy-out-place-2 : tie.Need-element-copy-out-place-2 Inv-loop μ-loop
 element-copy-out-place-2 c = search needs
 
 place-requires-2 : tie.Need-place-requires-2 Inv-loop μ-loop
-place-requires-2 c κs = let t = c .before .before .before in let s = t .before .before in let k = t .before .loop .k in let less = t .loop-test .taken in
-    (s .pre .0 .head-low k less, s .pre .0 .head-high k less)
+place-requires-2 c κs = let row = c .before .before .before in let l = row .before in let s = l .before in
+    (s .pre .0 .head-low (l .loop .k) (row .loop-test .taken), s .pre .0 .head-high (l .loop .k) (row .loop-test .taken))
 
 element-copy-out-may : tie.Need-element-copy-out-may Inv-loop μ-loop
 element-copy-out-may c = search needs
@@ -50,11 +59,33 @@ sub-if1 c = search needs
 add-if1 : tie.Need-add-if1 Inv-loop μ-loop
 add-if1 c = search needs
 
+-- what the code asks of the row of a turn
+module _ (c : tie.After-may2 Inv-loop μ-loop) where
+  abbrev start : tie.Start Inv-loop μ-loop
+  start = at-row (at-ends c) .before .before
+
+  abbrev row : ℕ
+  row = at-row (at-ends c) .before .loop .k
+
+  abbrev tail : ℕ
+  tail = at-ends c .before .before .place .result
+
+  abbrev head : ℕ
+  head = at-ends c .place2 .result
+
+  closes-row : (h : Hall) (n : ℕ) → Columns h n (start .args .count) (start .args .tails .now) (start .args .heads .now) →
+      (eqb (start .args .x - 1) tail && ((getD (start .args .movable .now) row false && getD (start .args .chosen .now) row false) && eqb (start .args .y) (head + 1)))
+      ≡ closes h (flagged (start .args .movable .now)) (flagged (start .args .chosen .now)) (start .args .x) (start .args .y) (suc row)
+  closes-row h n cols =
+      let a = start .args in let from = at-ends c .before .before .place in let to = at-ends c .place2 in
+      rw (add-one head)
+      (closes-here h n (a .count) (a .tails .now) (a .heads .now) [] (a .movable .now) (a .chosen .now) [] cols row tail head (at-row (at-ends c) .loop-test .taken) (from .ensures .0) (to .ensures .0)
+      (a .x) (a .y) (start .pre .1))
+
 returns : tie.Need-returns Inv-loop μ-loop
-returns c = let two = c .before .before .before in let one = two .before .before in let test = one .before .before in let l = test .before in let s = l .before in let a = s .args in
-    let k = l .loop .k in λ h n cols.
-    sym (first-more (a .count) (λ i. closes h (flagged (a .movable .now)) (flagged (a .chosen .now)) (a .x) (a .y) (suc i)) k (test .loop-test .taken) (l .loop .inv .1 h n cols)
-    (sym (closes-here h n (a .count) (a .tails .now) (a .heads .now) [] (a .movable .now) (a .chosen .now) [] cols k (one .place .result) (two .place2 .result) (test .loop-test .taken) (one .place .ensures .0) (two .place2 .ensures .0) (a .x) (a .y) (s .pre .1)) ∙ (rw (add-one (two .place2 .result)) at (c .if1 .taken))))
+returns c =
+    let row = at-row (at-ends (c .before)) in let l = row .before .loop in let a = row .before .before .args in
+    λ h n cols. sym (first-more (a .count) (λ i. closes h (flagged (a .movable .now)) (flagged (a .chosen .now)) (a .x) (a .y) (suc i)) (l .k) (row .loop-test .taken) (l .inv .1 h n cols) (sym (closes-row (c .before) h n cols) ∙ c .if1 .taken))
 
 add-k : tie.Need-add-k Inv-loop μ-loop
 add-k c = search needs
@@ -63,12 +94,10 @@ loop-less : tie.Need-loop-less Inv-loop μ-loop
 loop-less c = search needs
 
 loop-again : tie.Need-loop-again Inv-loop μ-loop
-loop-again c = let two = c .before .before .before in let one = two .before .before in let test = one .before .before in let l = test .before in let s = l .before in let a = s .args in
-    let k = l .loop .k in (
+loop-again c =
+    let row = at-row (at-ends (c .before)) in let l = row .before .loop in let a = row .before .before .args in (
       omega arith,
-      λ h n cols.
-          below-more (λ (i : ℕ). closes h (flagged (a .movable .now)) (flagged (a .chosen .now)) (a .x) (a .y) (suc i) ≡ false) k (l .loop .inv .1 h n cols)
-          (sym (closes-here h n (a .count) (a .tails .now) (a .heads .now) [] (a .movable .now) (a .chosen .now) [] cols k (one .place .result) (two .place2 .result) (test .loop-test .taken) (one .place .ensures .0) (two .place2 .ensures .0) (a .x) (a .y) (s .pre .1)) ∙ (rw (add-one (two .place2 .result)) at (c .if1 .left))),
+      λ h n cols. below-more (λ (i : ℕ). closes h (flagged (a .movable .now)) (flagged (a .chosen .now)) (a .x) (a .y) (suc i) ≡ false) (l .k) (l .inv .1 h n cols) (sym (closes-row (c .before) h n cols) ∙ c .if1 .left),
     )
 
 returns-2 : tie.Need-returns-2 Inv-loop μ-loop

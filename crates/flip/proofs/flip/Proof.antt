@@ -1,4 +1,4 @@
--- Flip walks back from the target: the flags are those after the legs walked so far. Assumes nothing.
+-- Flip walks back from the target, an arc a turn. The invariant: the flags are those after the legs walked so far, from y on. The measure is the distance of y. Assumes nothing.
 use mathlib.Core.Path.{sym, _≡_}
 use Prim.Native.Nat.{ℕ, _≤_, _<_}
 use native.Mathlib.Omega.{arith}

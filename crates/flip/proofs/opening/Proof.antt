@@ -1,10 +1,12 @@
--- Opening finds the first row: none before place k may be opened. Assumes nothing.
-use mathlib.Core.Path.{_≡_, sym, _∙_}
-use mathlib.Core.Bool.{false}
+-- Opening asks one row a turn. The invariant: none before place k may be opened on the way. The measure is the rows to come. Assumes nothing.
+use mathlib.Core.Path.{_≡_, sym, ap, _∙_}
+use mathlib.Core.Bool.{Bool, false, _&&_}
 use mathlib.Core.List.{[]}
-use Prim.Native.Nat.{ℕ, suc, _-_, _≤_, _<_}
+use Prim.Native.Nat.{ℕ, suc, _+_, _-_, _≤_, _<_}
 use native.Mathlib.Numerals.{add-one}
 use native.Mathlib.Omega.{arith}
+use lib.Dec.{eqb}
+use lib.ListN.{getD}
 use borrow.Author.Count.{below-more}
 use borrow.Author.Needs.{needs}
 use Rattle.laws.proofs.First.{first-more, first-none}
@@ -21,6 +23,13 @@ Inv-loop count tails heads costs movable potential x y k₀ k = (k ≤ count) ×
 abbrev μ-loop : tie.MeasureT-loop
 μ-loop count tails heads costs movable potential x y k₀ k = count - k
 
+-- the places of the code: the row of a turn and its ends, from the ones after them
+abbrev at-row : tie.After-place2 Inv-loop μ-loop → tie.In-loop Inv-loop μ-loop
+at-row c = c .before .before .before .before
+
+abbrev at-ends : tie.After-no-gap-arg3 Inv-loop μ-loop → tie.After-place2 Inv-loop μ-loop
+at-ends c = c .before .before .before .before
+
 loop-holds : tie.Need-loop-holds Inv-loop μ-loop
 loop-holds c = (omega arith, λ h n cols i l. absurd (omega arith))
 
@@ -28,40 +37,39 @@ element-copy-out-place : tie.Need-element-copy-out-place Inv-loop μ-loop
 element-copy-out-place c = search needs
 
 place-requires : tie.Need-place-requires Inv-loop μ-loop
-place-requires c κs = let s = c .before .before .before in let k = c .before .before .loop .k in let less = c .before .loop-test .taken in
-    (s .pre .0 .tail-low k less, s .pre .0 .tail-high k less)
+place-requires c κs = let row = c .before in let l = row .before in let s = l .before in
+    (s .pre .0 .tail-low (l .loop .k) (row .loop-test .taken), s .pre .0 .tail-high (l .loop .k) (row .loop-test .taken))
 
 element-copy-out-place-2 : tie.Need-element-copy-out-place-2 Inv-loop μ-loop
 element-copy-out-place-2 c = search needs
 
 place-requires-2 : tie.Need-place-requires-2 Inv-loop μ-loop
-place-requires-2 c κs = let t = c .before .before .before in let s = t .before .before in let k = t .before .loop .k in let less = t .loop-test .taken in
-    (s .pre .0 .head-low k less, s .pre .0 .head-high k less)
+place-requires-2 c κs = let row = c .before .before .before in let l = row .before in let s = l .before in
+    (s .pre .0 .head-low (l .loop .k) (row .loop-test .taken), s .pre .0 .head-high (l .loop .k) (row .loop-test .taken))
 
 element-copy-out-may : tie.Need-element-copy-out-may Inv-loop μ-loop
 element-copy-out-may c = search needs
 
-mul-may : tie.Need-mul-may Inv-loop μ-loop
-mul-may c = search needs
+mul-no-gap : tie.Need-mul-no-gap Inv-loop μ-loop
+mul-no-gap c = search needs
 
-element-copy-out-may-2 : tie.Need-element-copy-out-may-2 Inv-loop μ-loop
-element-copy-out-may-2 c = search needs
+element-copy-out-no-gap : tie.Need-element-copy-out-no-gap Inv-loop μ-loop
+element-copy-out-no-gap c = search needs
 
-mul-may-2 : tie.Need-mul-may-2 Inv-loop μ-loop
-mul-may-2 c = search needs
+mul-no-gap-2 : tie.Need-mul-no-gap-2 Inv-loop μ-loop
+mul-no-gap-2 c = search needs
 
-element-copy-out-may-3 : tie.Need-element-copy-out-may-3 Inv-loop μ-loop
-element-copy-out-may-3 c = search needs
+element-copy-out-no-gap-2 : tie.Need-element-copy-out-no-gap-2 Inv-loop μ-loop
+element-copy-out-no-gap-2 c = search needs
 
-mul-may-3 : tie.Need-mul-may-3 Inv-loop μ-loop
-mul-may-3 c = search needs
+mul-no-gap-3 : tie.Need-mul-no-gap-3 Inv-loop μ-loop
+mul-no-gap-3 c = search needs
 
-element-copy-out-may-4 : tie.Need-element-copy-out-may-4 Inv-loop μ-loop
-element-copy-out-may-4 c = search needs
+element-copy-out-no-gap-3 : tie.Need-element-copy-out-no-gap-3 Inv-loop μ-loop
+element-copy-out-no-gap-3 c = search needs
 
-add-may : tie.Need-add-may Inv-loop μ-loop
-add-may c = let t = c .before .before .before .before .before .before in let s = t .before .before .before .before in
-    record { fits = omega (arith, s .pre .1 (t .before .before .before .loop .k), s .pre .2 (t .place .result)) }
+no-gap-requires : tie.Need-no-gap-requires Inv-loop μ-loop
+no-gap-requires c κs = let l = at-row (at-ends c) .before in let s = l .before in omega (arith, s .pre .1 (l .loop .k), s .pre .2 (at-ends c .before .before .place .result))
 
 sub-if1 : tie.Need-sub-if1 Inv-loop μ-loop
 sub-if1 c = search needs
@@ -69,11 +77,37 @@ sub-if1 c = search needs
 add-if1 : tie.Need-add-if1 Inv-loop μ-loop
 add-if1 c = search needs
 
+-- what the code asks of the row of a turn
+module _ (c : tie.After-no-gap Inv-loop μ-loop) where
+  abbrev ends : tie.After-place2 Inv-loop μ-loop
+  ends = at-ends (c .before)
+
+  abbrev start : tie.Start Inv-loop μ-loop
+  start = at-row ends .before .before
+
+  abbrev row : ℕ
+  row = at-row ends .before .loop .k
+
+  abbrev tail : ℕ
+  tail = ends .before .before .place .result
+
+  abbrev head : ℕ
+  head = ends .place2 .result
+
+  opens-row : (h : Hall) (n : ℕ) → Columns h n (start .args .count) (start .args .tails .now) (start .args .heads .now) →
+      (eqb (start .args .x - 1) head && ((getD (start .args .movable .now) row false && c .no-gap .result) && eqb (start .args .y) (tail + 1)))
+      ≡ opens h (flagged (start .args .movable .now)) (at (start .args .costs .now)) (at (start .args .potential .now)) (start .args .x) (start .args .y) (suc row)
+  opens-row h n cols =
+      let a = start .args in let from = ends .before .before .place in let to = ends .place2 in
+      ap (λ (b : Bool). eqb (a .x - 1) head && ((getD (a .movable .now) row false && b) && eqb (a .y) (tail + 1))) (c .no-gap .ensures)
+      ∙ ap (λ (t : ℕ). eqb (a .x - 1) head && ((getD (a .movable .now) row false && eqb (getD (a .potential .now) head 0) (getD (a .potential .now) tail 0 + getD (a .costs .now) row 0)) && eqb (a .y) t)) (add-one tail)
+      ∙ opens-here h n (a .count) (a .tails .now) (a .heads .now) (a .costs .now) (a .movable .now) [] (a .potential .now) cols row tail head (at-row ends .loop-test .taken) (from .ensures .0) (to .ensures .0)
+      (a .x) (a .y) (start .pre .3)
+
 returns : tie.Need-returns Inv-loop μ-loop
-returns c = let two = c .before .before .before .before .before in let one = two .before .before in let test = one .before .before in let l = test .before in let s = l .before in let a = s .args in
-    let k = l .loop .k in λ h n cols.
-    sym (first-more (a .count) (λ i. opens h (flagged (a .movable .now)) (at (a .costs .now)) (at (a .potential .now)) (a .x) (a .y) (suc i)) k (test .loop-test .taken) (l .loop .inv .1 h n cols)
-    (sym (opens-here h n (a .count) (a .tails .now) (a .heads .now) (a .costs .now) (a .movable .now) [] (a .potential .now) cols k (one .place .result) (two .place2 .result) (test .loop-test .taken) (one .place .ensures .0) (two .place2 .ensures .0) (a .x) (a .y) (s .pre .3)) ∙ (rw (add-one (one .place .result)) at (c .if1 .taken))))
+returns c =
+    let row = at-row (ends (c .before)) in let l = row .before .loop in let a = row .before .before .args in
+    λ h n cols. sym (first-more (a .count) (λ i. opens h (flagged (a .movable .now)) (at (a .costs .now)) (at (a .potential .now)) (a .x) (a .y) (suc i)) (l .k) (row .loop-test .taken) (l .inv .1 h n cols) (sym (opens-row (c .before) h n cols) ∙ c .if1 .taken))
 
 add-k : tie.Need-add-k Inv-loop μ-loop
 add-k c = search needs
@@ -82,12 +116,10 @@ loop-less : tie.Need-loop-less Inv-loop μ-loop
 loop-less c = search needs
 
 loop-again : tie.Need-loop-again Inv-loop μ-loop
-loop-again c = let two = c .before .before .before .before .before in let one = two .before .before in let test = one .before .before in let l = test .before in let s = l .before in let a = s .args in
-    let k = l .loop .k in (
+loop-again c =
+    let row = at-row (ends (c .before)) in let l = row .before .loop in let a = row .before .before .args in (
       omega arith,
-      λ h n cols.
-          below-more (λ (i : ℕ). opens h (flagged (a .movable .now)) (at (a .costs .now)) (at (a .potential .now)) (a .x) (a .y) (suc i) ≡ false) k (l .loop .inv .1 h n cols)
-          (sym (opens-here h n (a .count) (a .tails .now) (a .heads .now) (a .costs .now) (a .movable .now) [] (a .potential .now) cols k (one .place .result) (two .place2 .result) (test .loop-test .taken) (one .place .ensures .0) (two .place2 .ensures .0) (a .x) (a .y) (s .pre .3)) ∙ (rw (add-one (one .place .result)) at (c .if1 .left))),
+      λ h n cols. below-more (λ (i : ℕ). opens h (flagged (a .movable .now)) (at (a .costs .now)) (at (a .potential .now)) (a .x) (a .y) (suc i) ≡ false) (l .k) (l .inv .1 h n cols) (sym (opens-row (c .before) h n cols) ∙ c .if1 .left),
     )
 
 returns-2 : tie.Need-returns-2 Inv-loop μ-loop
@@ -106,13 +138,13 @@ opening-spec =
     element-copy-out-place-2
     place-requires-2
     element-copy-out-may
-    mul-may
-    element-copy-out-may-2
-    mul-may-2
-    element-copy-out-may-3
-    mul-may-3
-    element-copy-out-may-4
-    add-may
+    mul-no-gap
+    element-copy-out-no-gap
+    mul-no-gap-2
+    element-copy-out-no-gap-2
+    mul-no-gap-3
+    element-copy-out-no-gap-3
+    no-gap-requires
     sub-if1
     add-if1
     returns

@@ -1,4 +1,4 @@
--- `pruning::backed` finds one of the rows that makes the arc. Assumes nothing.
+-- `pruning::backed` asks one row a turn. The invariant: if one is found, the rows make the arc. The measure is the rows to come. Assumes nothing.
 use mathlib.Core.Logic.{⊎-elim}
 use mathlib.Core.Path.{_≡_, refl}
 use mathlib.Core.Bool.{true}
@@ -18,6 +18,13 @@ Inv-loop m tails heads rows k tail head found₀ i₀ found i = (i ≤ m) × ((h
 
 abbrev μ-loop : tie.MeasureT-loop
 μ-loop m tails heads rows k tail head found₀ i₀ found i = m - i
+
+-- the loop, from the end of a turn, and the start
+abbrev at-loop : tie.After-found3 Inv-loop μ-loop → tie.At-loop Inv-loop μ-loop
+at-loop c = c .before .before .before .before
+
+abbrev at-start : tie.At-loop Inv-loop μ-loop → tie.Start Inv-loop μ-loop
+at-start c = c .before .before .before
 
 element-copy-out-tail : tie.Need-element-copy-out-tail Inv-loop μ-loop
 element-copy-out-tail c = search needs
@@ -45,10 +52,9 @@ loop-less c = search needs
 
 loop-again : tie.Need-loop-again Inv-loop μ-loop
 loop-again c =
-    let l = c .before .before .before .before .loop in
-    let a = c .before .before .before .before .before .before .before .args in (
+    let l = at-loop c .loop in let s = at-start (at-loop c) in let a = s .args in (
       omega arith,
-      λ h n cols e. ⊎-elim (l .inv .1 h n cols) (backed-by (a .rows .now) (a .k) h n (a .m) (a .tails .now) (a .heads .now) cols (c .before .before .before .before .before .before .before .pre .1) (l .i) (omega arith)) (or-cases (l .found) _ e),
+      λ h n cols e. ⊎-elim (l .inv .1 h n cols) (backed-by (a .rows .now) (a .k) h n (a .m) (a .tails .now) (a .heads .now) cols (s .pre .1) (l .i) (omega arith)) (or-cases (l .found) _ e),
     )
 
 returns : tie.Need-returns Inv-loop μ-loop

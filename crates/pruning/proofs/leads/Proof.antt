@@ -1,4 +1,4 @@
--- `pruning::leads` expands one junction a turn; what it has reached lies in every closed set with the start. Assumes nothing.
+-- `pruning::leads` expands one junction a turn. The invariant: what is reached lies in every closed set with the start. The measure is the junctions not yet expanded. Assumes nothing.
 use mathlib.Core.Path.{refl}
 use Prim.Native.Nat.{_-_, _^_, _<_}
 use native.Mathlib.Omega.{arith}
@@ -22,6 +22,10 @@ Inv-loop arcs start target reached₀ todo₀ reached todo = (todo < 2 ^ 64) × 
 abbrev μ-loop : tie.MeasureT-loop
 μ-loop arcs start target reached₀ todo₀ reached todo = unexpanded 64 reached todo
 
+-- the loop, from the end of a turn
+abbrev at-loop : tie.After-arcs Inv-loop μ-loop → tie.At-loop Inv-loop μ-loop
+at-loop c = c .before .before .before
+
 sub-reached : tie.Need-sub-reached Inv-loop μ-loop
 sub-reached c = search needs
 
@@ -42,8 +46,8 @@ shr-if1 c = search needs
 returns : tie.Need-returns Inv-loop μ-loop
 unfolding holds Within
 returns c = λ _ t has closed.
-    let a = c .before .before .before .args in
-    c .before .before .loop .inv .1 .least t (one-within t (a .start) (c .before .before .before .pre .0) has) closed (a .target) (c .before .before .before .pre .2) (eq-eqb _ 1 (c .if1 .taken))
+    let l = c .before .before in let s = l .before in
+    l .loop .inv .1 .least t (one-within t (s .args .start) (s .pre .0) has) closed (s .args .target) (s .pre .2) (eq-eqb _ 1 (c .if1 .taken))
 
 cast-next : tie.Need-cast-next Inv-loop μ-loop
 cast-next c = record { fits = omega (arith, trailing-le 64 (c .before .before .loop .todo)) }
@@ -58,11 +62,11 @@ sub-todo : tie.Need-sub-todo Inv-loop μ-loop
 sub-todo c = search needs
 
 loop-less : tie.Need-loop-less Inv-loop μ-loop
-loop-less c = let l = c .before .before .before .loop in let a = c .before .before .before .before .args in
+loop-less c = let l = at-loop c .loop in let a = at-loop c .before .args in
     expand-less (out-of (a .arcs .now)) (2 ^ (a .start - 1)) (l .reached) (l .todo) (c .arcs .result) (omega arith) (l .inv .0) (c .arcs .ensures) (l .inv .1)
 
 loop-again : tie.Need-loop-again Inv-loop μ-loop
-loop-again c = let l = c .before .before .before .loop in let a = c .before .before .before .before .args in (
+loop-again c = let l = at-loop c .loop in let a = at-loop c .before .args in (
   expand-fits (l .reached) (l .todo) (c .arcs .result) (l .inv .0) (omega (arith, c .arcs .ok)),
   expand-step (out-of (a .arcs .now)) (2 ^ (a .start - 1)) (l .reached) (l .todo) (c .arcs .result) (omega arith) (l .inv .0) (c .arcs .ensures) (l .inv .1),
 )

@@ -25,8 +25,11 @@ abbrev μ-loop : tie.MeasureT-loop
 μ-loop n m tails heads costs order arcs₀ twice forward left₀ turn₀ arcs left turn = m - turn
 
 -- the places of the code: what each call gave, from the ones after it
+abbrev at-arcs : tie.At-loop Inv-loop μ-loop → tie.After-of-rows Inv-loop μ-loop
+at-arcs c = c .before .before .before .before .before
+
 abbrev at-start : tie.At-loop Inv-loop μ-loop → tie.Start Inv-loop μ-loop
-at-start c = c .before .before .before .before .before .before .before .before
+at-start c = at-arcs c .before .before .before
 
 abbrev at-loop : tie.After-place-of Inv-loop μ-loop → tie.At-loop Inv-loop μ-loop
 at-loop c = c .before .before
@@ -54,8 +57,8 @@ of-rows-requires-2 c κs = search needs
 
 loop-holds : tie.Need-loop-holds Inv-loop μ-loop
 loop-holds c =
-    let arcs = c .before .before .before .before .of-rows in
-    (omega arith, arcs .ok .1 .0 .1, λ k e. e, λ h cols rg joins. thinned-start h (c .before .before .before .before .before .before .before .args .t6) (arcs .result) joins (arcs .ensures h cols))
+    let made = c .before .before .before .before in let arcs = made .of-rows in let a = made .before .before .before .args in
+    (omega arith, arcs .ok .1 .0 .1, λ k e. e, λ h cols rg joins. thinned-start h (a .t6) (arcs .result) joins (arcs .ensures h cols))
 
 mul-place-of : tie.Need-mul-place-of Inv-loop μ-loop
 mul-place-of c = search needs

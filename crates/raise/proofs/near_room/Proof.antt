@@ -1,4 +1,4 @@
--- Near_room is the most that the neighbourhoods of the junctions taken so far allow. Assumes nothing.
+-- Near_room takes one junction of the set a turn. The invariant: the room is the most that the neighbourhoods of those taken allow. The measure is what is left, as a number. Assumes nothing.
 use mathlib.Core.Path.{refl}
 use Prim.Native.Nat.{_-_, _^_, _<_}
 use native.Mathlib.Omega.{arith}
@@ -16,6 +16,13 @@ Inv-loop around potential set start room₀ rest₀ room rest = (rest < 2 ^ 64) 
 
 abbrev μ-loop : tie.MeasureT-loop
 μ-loop around potential set start room₀ rest₀ room rest = rest
+
+-- the places of the code, from the end of a turn
+abbrev at-lowest : tie.After-set-room Inv-loop μ-loop → tie.After-lowest Inv-loop μ-loop
+at-lowest c = c .before .before .before .before
+
+abbrev at-loop : tie.After-set-room Inv-loop μ-loop → tie.At-loop Inv-loop μ-loop
+at-loop c = at-lowest c .before .before
 
 loop-holds : tie.Need-loop-holds Inv-loop μ-loop
 loop-holds c = let a = c .args in (omega arith, within-self (a .set), taken-room-none (beyond (a .around .now) (a .potential .now) (a .set)) (a .set) (a .start))
@@ -48,15 +55,16 @@ sub-rest : tie.Need-sub-rest Inv-loop μ-loop
 sub-rest c = search needs
 
 loop-less : tie.Need-loop-less Inv-loop μ-loop
-loop-less c = let rest = c .before .before .before .before .before .before .loop .rest in omega (arith, and-le-r rest (rest - 1))
+loop-less c = let rest = at-loop c .loop .rest in omega (arith, and-le-r rest (rest - 1))
 
 loop-again : tie.Need-loop-again Inv-loop μ-loop
-loop-again c = let low = c .before .before .before .before in let l = low .before .before in let a = l .before .args in let rest = l .loop .rest in let q = beyond (a .around .now) (a .potential .now) (a .set) in (
-  omega (arith, and-le-r rest (rest - 1)),
-  taken-within q (a .set) (a .start) rest (low .lowest .result) (omega arith) (l .loop .inv .0) (low .lowest .ensures .0) (l .loop .inv .1),
-  taken-room-more q (a .set) (a .start) rest (low .lowest .result) (omega arith) (l .loop .inv .0) (low .lowest .ensures .0) (l .loop .inv .1) (beyond-down (a .around .now) (a .potential .now) (a .set))
-      (l .loop .room) (c .set-room .result) (l .loop .inv .2) (beyond-narrow (a .around .now) (a .potential .now) (a .set) (low .lowest .result) (l .loop .room) (c .set-room .result) _ refl (c .set-room .ensures)),
-)
+loop-again c =
+    let low = at-lowest c .lowest in let l = at-loop c .loop in let a = at-loop c .before .args in let rest = l .rest in let q = beyond (a .around .now) (a .potential .now) (a .set) in (
+      omega (arith, and-le-r rest (rest - 1)),
+      taken-within q (a .set) (a .start) rest (low .result) (omega arith) (l .inv .0) (low .ensures .0) (l .inv .1),
+      taken-room-more q (a .set) (a .start) rest (low .result) (omega arith) (l .inv .0) (low .ensures .0) (l .inv .1) (beyond-down (a .around .now) (a .potential .now) (a .set))
+          (l .room) (c .set-room .result) (l .inv .2) (beyond-narrow (a .around .now) (a .potential .now) (a .set) (low .result) (l .room) (c .set-room .result) _ refl (c .set-room .ensures)),
+    )
 
 returns : tie.Need-returns Inv-loop μ-loop
 unfolding Near-allow

@@ -1,4 +1,4 @@
--- Raise has the first places raised. Assumes nothing.
+-- Raise makes one level a turn. The invariant: the first j places hold the raised levels. The measure is the places to come. Assumes nothing.
 use mathlib.Core.Path.{refl, sym}
 use Prim.Native.Nat.{_-_, _≤_}
 use native.Mathlib.Omega.{arith}

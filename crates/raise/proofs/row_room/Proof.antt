@@ -1,4 +1,4 @@
--- Row_room is the most that the first k rows allow. Assumes nothing.
+-- Row_room takes one row a turn. The invariant: the room is the most, up to the start, that the first k rows allow. The measure is the rows to come. Assumes nothing.
 use mathlib.Core.Path.{_≡_, sym}
 use Prim.Native.Nat.{ℕ, _-_, _≤_}
 use native.Mathlib.Omega.{arith}
@@ -16,6 +16,16 @@ Inv-loop count tails heads costs movable potential set start room₀ k₀ room k
 abbrev μ-loop : tie.MeasureT-loop
 μ-loop count tails heads costs movable potential set start room₀ k₀ room k = count - k
 
+-- the places of the code: the row of a turn, its ends and where they lie, from the ones after them
+abbrev at-row : tie.After-place2 Inv-loop μ-loop → tie.In-loop Inv-loop μ-loop
+at-row c = c .before .before .before .before
+
+abbrev at-ends : tie.After-has2 Inv-loop μ-loop → tie.After-place2 Inv-loop μ-loop
+at-ends c = c .before .before
+
+abbrev at-sides : tie.After-narrow-arg3 Inv-loop μ-loop → tie.After-has2 Inv-loop μ-loop
+at-sides c = c .before .before .before
+
 loop-holds : tie.Need-loop-holds Inv-loop μ-loop
 loop-holds c = let a = c .args in (omega arith, omega arith, λ h n cols. rows-room-none h n (a .count) (a .tails .now) (a .heads .now) (a .costs .now) (a .movable .now) (a .potential .now) cols (a .set) (a .start))
 
@@ -23,15 +33,15 @@ element-copy-out-place : tie.Need-element-copy-out-place Inv-loop μ-loop
 element-copy-out-place c = search needs
 
 place-requires : tie.Need-place-requires Inv-loop μ-loop
-place-requires c κs = let s = c .before .before .before in let k = c .before .before .loop .k in let less = c .before .loop-test .taken in
-    (s .pre .0 .tail-low k less, s .pre .0 .tail-high k less)
+place-requires c κs = let row = c .before in let l = row .before in let s = l .before in
+    (s .pre .0 .tail-low (l .loop .k) (row .loop-test .taken), s .pre .0 .tail-high (l .loop .k) (row .loop-test .taken))
 
 element-copy-out-place-2 : tie.Need-element-copy-out-place-2 Inv-loop μ-loop
 element-copy-out-place-2 c = search needs
 
 place-requires-2 : tie.Need-place-requires-2 Inv-loop μ-loop
-place-requires-2 c κs = let t = c .before .before .before in let s = t .before .before in let k = t .before .loop .k in let less = t .loop-test .taken in
-    (s .pre .0 .head-low k less, s .pre .0 .head-high k less)
+place-requires-2 c κs = let row = c .before .before .before in let l = row .before in let s = l .before in
+    (s .pre .0 .head-low (l .loop .k) (row .loop-test .taken), s .pre .0 .head-high (l .loop .k) (row .loop-test .taken))
 
 has-requires : tie.Need-has-requires Inv-loop μ-loop
 has-requires c κs = search needs
@@ -55,8 +65,8 @@ element-copy-out-narrow-3 : tie.Need-element-copy-out-narrow-3 Inv-loop μ-loop
 element-copy-out-narrow-3 c = search needs
 
 add-narrow : tie.Need-add-narrow Inv-loop μ-loop
-add-narrow c = let t = c .before .before .before .before .before .before .before in let s = t .before .before .before .before in
-    record { fits = omega (arith, s .pre .1 (t .before .before .before .loop .k), s .pre .2 (t .place .result)) }
+add-narrow c = let ends = at-ends (at-sides c) in let l = at-row ends .before in let s = l .before in
+    record { fits = omega (arith, s .pre .1 (l .loop .k), s .pre .2 (ends .before .before .place .result)) }
 
 mul-narrow-3 : tie.Need-mul-narrow-3 Inv-loop μ-loop
 mul-narrow-3 c = search needs
@@ -74,13 +84,15 @@ loop-less : tie.Need-loop-less Inv-loop μ-loop
 loop-less c = search needs
 
 loop-again : tie.Need-loop-again Inv-loop μ-loop
-loop-again c = let has2 = c .before .before .before .before .before in let has1 = has2 .before in let two = has1 .before in let one = two .before .before in
-    let test = one .before .before in let l = test .before in let a = l .before .args in (
+loop-again c =
+    let into = at-sides (c .before .before) .has2 in let out = at-sides (c .before .before) .before .has in
+    let ends = at-ends (at-sides (c .before .before)) in let tail = ends .before .before .place in let head = ends .place2 in
+    let row = at-row ends in let l = row .before .loop in let a = row .before .before .args in (
       omega arith,
       omega (arith, c .narrow .ensures .1),
       λ h n cols. rows-room-more h n (a .count) (a .tails .now) (a .heads .now) (a .costs .now) (a .movable .now) (a .potential .now) cols (a .set) (a .start)
-          (l .loop .k) (one .place .result) (two .place2 .result) (l .loop .room) (c .narrow .result) (test .loop-test .taken) (one .place .ensures .0) (two .place2 .ensures .0)
-          (rw (sym (has1 .has .ensures), sym (has2 .has2 .ensures)) (c .narrow .ensures .0)) (l .loop .inv .2 h n cols),
+          (l .k) (tail .result) (head .result) (l .room) (c .narrow .result) (row .loop-test .taken) (tail .ensures .0) (head .ensures .0)
+          (rw (sym (out .ensures), sym (into .ensures)) (c .narrow .ensures .0)) (l .inv .2 h n cols),
     )
 
 returns : tie.Need-returns Inv-loop μ-loop

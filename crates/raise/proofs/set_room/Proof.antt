@@ -1,4 +1,4 @@
--- Set_room is the most that the junctions taken so far allow. Assumes nothing.
+-- Set_room takes one junction of the set a turn. The invariant: the room is the most that those taken allow. The measure is what is left, as a number. Assumes nothing.
 use Prim.Native.Nat.{_-_, _^_, _<_}
 use native.Mathlib.Omega.{arith}
 use lib.Bits.{and-le-r}
@@ -15,6 +15,10 @@ Inv-loop set potential low start room₀ rest₀ room rest = (rest < 2 ^ 64) × 
 
 abbrev μ-loop : tie.MeasureT-loop
 μ-loop set potential low start room₀ rest₀ room rest = rest
+
+-- the loop, from the end of a turn
+abbrev at-loop : tie.After-narrow Inv-loop μ-loop → tie.At-loop Inv-loop μ-loop
+at-loop c = c .before .before .before .before
 
 loop-holds : tie.Need-loop-holds Inv-loop μ-loop
 loop-holds c = let a = c .args in (omega arith, within-self (a .set), taken-room-none (over (a .potential .now) (a .low)) (a .set) (a .start))
@@ -35,15 +39,16 @@ sub-rest : tie.Need-sub-rest Inv-loop μ-loop
 sub-rest c = search needs
 
 loop-less : tie.Need-loop-less Inv-loop μ-loop
-loop-less c = let rest = c .before .before .before .before .loop .rest in omega (arith, and-le-r rest (rest - 1))
+loop-less c = let rest = at-loop c .loop .rest in omega (arith, and-le-r rest (rest - 1))
 
 loop-again : tie.Need-loop-again Inv-loop μ-loop
-loop-again c = let low = c .before .before in let l = low .before .before in let a = l .before .args in let rest = l .loop .rest in let q = over (a .potential .now) (a .low) in (
-  omega (arith, and-le-r rest (rest - 1)),
-  taken-within q (a .set) (a .start) rest (low .lowest .result) (omega arith) (l .loop .inv .0) (low .lowest .ensures .0) (l .loop .inv .1),
-  taken-room-more q (a .set) (a .start) rest (low .lowest .result) (omega arith) (l .loop .inv .0) (low .lowest .ensures .0) (l .loop .inv .1) (over-down (a .potential .now) (a .low))
-      (l .loop .room) (c .narrow .result) (l .loop .inv .2) (over-narrow (a .potential .now) (a .low) (low .lowest .result) (l .loop .room) (c .narrow .result) (c .narrow .ensures .0)),
-)
+loop-again c =
+    let low = c .before .before .lowest in let l = at-loop c .loop in let a = at-loop c .before .args in let rest = l .rest in let q = over (a .potential .now) (a .low) in (
+      omega (arith, and-le-r rest (rest - 1)),
+      taken-within q (a .set) (a .start) rest (low .result) (omega arith) (l .inv .0) (low .ensures .0) (l .inv .1),
+      taken-room-more q (a .set) (a .start) rest (low .result) (omega arith) (l .inv .0) (low .ensures .0) (l .inv .1) (over-down (a .potential .now) (a .low))
+          (l .room) (c .narrow .result) (l .inv .2) (over-narrow (a .potential .now) (a .low) (low .result) (l .room) (c .narrow .result) (c .narrow .ensures .0)),
+    )
 
 returns : tie.Need-returns Inv-loop μ-loop
 unfolding Over-set

@@ -1,4 +1,4 @@
--- Repair steps while a chosen row has a gap: what it keeps stays, and the slack falls. Assumes nothing.
+-- Repair makes one step a turn. The invariant: P1 and P3 hold, the neighbourhoods are those of the choice, no level has grown by more than the slack has fallen, and the row is one with a gap. The measure is the slack. Assumes nothing.
 use mathlib.Core.Bool.{true, false}
 use mathlib.Core.Path.{_≡_}
 use Prim.Native.Nat.{ℕ, _<_}
@@ -10,6 +10,8 @@ use Rattle.dicuts.specs.Shores.{Ranged}
 use Rattle.columns.specs.Columns.{at, flagged, Columns, Neighbourhoods}
 use Rattle.potentials.specs.Repair.{Repairable}
 use Rattle.columns.proofs.Ranged.{ends-wide}
+use Rattle.repair.specs.declared.State.{State}
+use Rattle.repair.specs.Repairs.{Stepped}
 use Rattle.repair.proofs.Repairing.{slack-columns, low-levels, all-free, all-set, first-some, kept-start, kept-more, kept-end, kept-low, Kept, columns-slack}
 use Rattle.repair.proofs.repair.Statement.{statement}
 use Rattle.repair.proofs.repair.Tie as tie
@@ -22,13 +24,24 @@ Inv-loop n count tails heads costs movable state₀ row₀ state row = (length (
 abbrev μ-loop : tie.MeasureT-loop
 μ-loop n count tails heads costs movable state₀ row₀ state row = columns-slack count tails heads (at costs) (at (state .potential)) (flagged (state .chosen))
 
+-- the places of the code: the start, a turn and its step, from the ones after them
+abbrev at-start : tie.At-loop Inv-loop μ-loop → tie.Start Inv-loop μ-loop
+at-start c = c .before .before .before .before .before
+
+abbrev at-turn : tie.After-repair-step-arg3 Inv-loop μ-loop → tie.In-loop Inv-loop μ-loop
+at-turn c = c .before .before .before .before .before
+
+abbrev at-step : tie.After-next-unpaid-arg2 Inv-loop μ-loop → tie.After-repair-step Inv-loop μ-loop
+at-step c = c .before .before .before
+
 unpaid-requires : tie.Need-unpaid-requires Inv-loop μ-loop
-unpaid-requires c κs = let s = c .before .before .before in let a = s .args in let size : length (a .potential) ≡ 64 = search needs in
+unpaid-requires c κs =
+    let s = c .before .before .before in let a = s .args in let size : length (a .potential) ≡ 64 = search needs in
     (ends-wide (a .n) (a .count) (a .tails .now) (a .heads .now) (s .pre .0), s .pre .1, low-levels (a .potential) size (λ j l u. omega (arith, s .pre .2 .bound j l u)))
 
 loop-holds : tie.Need-loop-holds Inv-loop μ-loop
-loop-holds c = let s = c .before .before .before .before in let a = s .args in
-    let size : length (a .potential) ≡ 64 = search needs in let many : length (a .chosen) ≡ 256 = search needs in (
+loop-holds c =
+    let a = c .before .before .before .before .args in let size : length (a .potential) ≡ 64 = search needs in let many : length (a .chosen) ≡ 256 = search needs in (
       many,
       size,
       all-set,
@@ -36,53 +49,80 @@ loop-holds c = let s = c .before .before .before .before in let a = s .args in
           (first-some h (at (a .costs .now)) (at (a .potential)) (flagged (a .chosen)) (a .count) (c .unpaid .result) (c .unpaid .ensures h (a .n) cols)),
     )
 
+-- what is kept at a turn, for the hall of the start
+module _ (c : tie.In-loop Inv-loop μ-loop) where
+  abbrev start : tie.Start Inv-loop μ-loop
+  start = at-start (c .before)
+
+  abbrev here : State
+  here = c .before .loop .state
+
+  kept : let from = start .pre .2 in Kept (from .hall) (at (start .args .costs .now)) (at (start .args .potential)) (at (here .potential)) (flagged (start .args .chosen)) (flagged (here .chosen)) (here .around) (start .args .count) (c .before .loop .row)
+  kept = let from = start .pre .2 in c .before .loop .inv .3 (from .hall) (from .columns) (from .ranged) (from .repairable) (from .around)
+
 repair-step-requires : tie.Need-repair-step-requires Inv-loop μ-loop
-repair-step-requires c κs = let l = c .before .before .before .before .before .before in let s = l .before .before .before .before .before in let a = s .args in let from = s .pre .2 in (
-  s .pre .0,
-  s .pre .1,
-  kept-low (a .n) (a .count) (a .tails .now) (a .heads .now) (a .costs .now) (a .potential) (a .chosen) (a .around) from (l .loop .state .potential) (l .loop .state .around) (flagged (l .loop .state .chosen)) (l .loop .row) (l .loop .inv .1)
-      (l .loop .inv .3 (from .hall) (from .columns) (from .ranged) (from .repairable) (from .around)),
-  c .before .before .before .before .before .loop-test .taken,
-  l .loop .inv .0,
-  l .loop .inv .1,
-)
+repair-step-requires c κs =
+    let turn = at-turn c in let l = turn .before .loop in let s = start turn in let a = s .args in (
+      s .pre .0,
+      s .pre .1,
+      kept-low (a .n) (a .count) (a .tails .now) (a .heads .now) (a .costs .now) (a .potential) (a .chosen) (a .around) (s .pre .2) (here turn .potential) (here turn .around) (flagged (here turn .chosen)) (l .row) (l .inv .1) (kept turn),
+      turn .loop-test .taken,
+      l .inv .0,
+      l .inv .1,
+    )
+
+-- a step from what is kept, in any hall
+module _ (c : tie.After-repair-step Inv-loop μ-loop) (h : Hall) (cols : Columns h (start (at-turn (c .before)) .args .n) (start (at-turn (c .before)) .args .count) (start (at-turn (c .before)) .args .tails .now) (start (at-turn (c .before)) .args .heads .now))
+    (rg : Ranged h) where
+  abbrev turn : tie.In-loop Inv-loop μ-loop
+  turn = at-turn (c .before)
+
+  abbrev there : State
+  there = c .repair-step .result
+
+  stepped :
+      Kept h (at (start turn .args .costs .now)) (at (start turn .args .potential)) (at (here turn .potential)) (flagged (start turn .args .chosen)) (flagged (here turn .chosen)) (here turn .around) (start turn .args .count) (turn .before .loop .row) →
+      Stepped h (at (start turn .args .costs .now)) (at (here turn .potential)) (at (there .potential)) (flagged (here turn .chosen)) (flagged (there .chosen)) (there .around)
+  stepped k =
+      c .repair-step .ensures .2 h cols rg (all-free h (replicate 256 true) (omega (arith, cols .rows, start turn .pre .0 .few)) all-set) (k .repairable) (k .around)
+      (k .next .here (turn .loop-test .taken))
 
 next-unpaid-requires : tie.Need-next-unpaid-requires Inv-loop μ-loop
-next-unpaid-requires c κs = let st = c .before .before .before in let l = st .before .before .before .before .before .before .before in let s = l .before .before .before .before .before in let a = s .args in let from = s .pre .2 in
-    let h = from .hall in let cols = from .columns in let kept = l .loop .inv .3 h cols (from .ranged) (from .repairable) (from .around) in
-    let r = st .repair-step .result in let size = st .repair-step .ensures .1 in
-    let stepped = st .repair-step .ensures .2 h cols (from .ranged) (all-free h (replicate 256 true) (omega (arith, cols .rows, s .pre .0 .few)) all-set) (kept .repairable) (kept .around)
-    (kept .next .here (st .before .before .before .before .before .before .loop-test .taken)) in
-    (ends-wide (a .n) (a .count) (a .tails .now) (a .heads .now) (s .pre .0), s .pre .1, low-levels (r .potential) size (λ j l u. omega (arith, from .bound j l u, kept .bound j l u, stepped .bound j l u)))
+next-unpaid-requires c κs =
+    let st = at-step c in let turn = at-turn (st .before) in let s = start turn in let a = s .args in let from = s .pre .2 in
+    let k = kept turn in let next = stepped st (from .hall) (from .columns) (from .ranged) k in (
+      ends-wide (a .n) (a .count) (a .tails .now) (a .heads .now) (s .pre .0),
+      s .pre .1,
+      low-levels (st .repair-step .result .potential) (st .repair-step .ensures .1) (λ j l u. omega (arith, from .bound j l u, k .bound j l u, next .bound j l u)),
+    )
 
 loop-less : tie.Need-loop-less Inv-loop μ-loop
-loop-less c = let st = c .before .before .before .before in let l = st .before .before .before .before .before .before .before in let s = l .before .before .before .before .before in let a = s .args in let from = s .pre .2 in
-    let h = from .hall in let cols = from .columns in let kept = l .loop .inv .3 h cols (from .ranged) (from .repairable) (from .around) in
-    let r = st .repair-step .result in
-    let stepped = st .repair-step .ensures .2 h cols (from .ranged) (all-free h (replicate 256 true) (omega (arith, cols .rows, s .pre .0 .few)) all-set) (kept .repairable) (kept .around)
-    (kept .next .here (st .before .before .before .before .before .before .loop-test .taken)) in
+loop-less c =
+    let st = at-step (c .before) in let turn = at-turn (st .before) in let a = start turn .args in let from = start turn .pre .2 in let r = st .repair-step .result in
     omega (
       arith,
-      stepped .less,
-      slack-columns h (a .n) (a .count) (a .tails .now) (a .heads .now) cols (at (a .costs .now)) (at (r .potential)) (flagged (r .chosen)),
-      slack-columns h (a .n) (a .count) (a .tails .now) (a .heads .now) cols (at (a .costs .now)) (at (l .loop .state .potential)) (flagged (l .loop .state .chosen)),
+      stepped st (from .hall) (from .columns) (from .ranged) (kept turn) .less,
+      slack-columns (from .hall) (a .n) (a .count) (a .tails .now) (a .heads .now) (from .columns) (at (a .costs .now)) (at (r .potential)) (flagged (r .chosen)),
+      slack-columns (from .hall) (a .n) (a .count) (a .tails .now) (a .heads .now) (from .columns) (at (a .costs .now)) (at (here turn .potential)) (flagged (here turn .chosen)),
     )
 
 loop-again : tie.Need-loop-again Inv-loop μ-loop
-loop-again c = let st = c .before .before .before .before in let l = st .before .before .before .before .before .before .before in let s = l .before .before .before .before .before in let a = s .args in
-    let r = st .repair-step .result in let ok = st .repair-step .ensures in (
-      ok .0,
-      ok .1,
+loop-again c =
+    let st = at-step (c .before) in let turn = at-turn (st .before) in let l = turn .before .loop in let a = start turn .args in let r = st .repair-step .result in (
+      st .repair-step .ensures .0,
+      st .repair-step .ensures .1,
       all-set,
-      λ h cols rg start around. let kept = l .loop .inv .3 h cols rg start around in
-          let stepped = st .repair-step .ensures .2 h cols rg (all-free h (replicate 256 true) (omega (arith, cols .rows, s .pre .0 .few)) all-set) (kept .repairable) (kept .around)
-          (kept .next .here (st .before .before .before .before .before .before .loop-test .taken)) in
-          kept-more h (at (a .costs .now)) (at (a .potential)) (flagged (a .chosen)) (a .count) (at (l .loop .state .potential)) (flagged (l .loop .state .chosen)) (l .loop .state .around) (l .loop .row) kept (at (r .potential)) (flagged (r .chosen)) (r .around) (c .next-unpaid .result) stepped (c .next-unpaid .ensures h (a .n) cols),
+      λ h cols rg start around.
+          let k = l .inv .3 h cols rg start around in
+          kept-more h (at (a .costs .now)) (at (a .potential)) (flagged (a .chosen)) (a .count) (at (here turn .potential)) (flagged (here turn .chosen)) (here turn .around) (l .row) k
+          (at (r .potential)) (flagged (r .chosen)) (r .around) (c .next-unpaid .result) (stepped st h cols rg k) (c .next-unpaid .ensures h (a .n) cols),
     )
 
 returns : tie.Need-returns Inv-loop μ-loop
-returns c = let l = c .before in let s = l .before .before .before .before .before in let a = s .args in λ h cols rg start around.
-    kept-end h (at (a .costs .now)) (at (a .potential)) (flagged (a .chosen)) (a .count) (at (l .loop .state .potential)) (flagged (l .loop .state .chosen)) (l .loop .state .around) (l .loop .row) (l .loop .inv .3 h cols rg start around) (cols .rows) (c .loop-test .left)
+returns c =
+    let l = c .before .loop in let a = at-start (c .before) .args in
+    λ h cols rg start around.
+    kept-end h (at (a .costs .now)) (at (a .potential)) (flagged (a .chosen)) (a .count) (at (l .state .potential)) (flagged (l .state .chosen)) (l .state .around) (l .row) (l .inv .3 h cols rg start around) (cols .rows) (c .loop-test .left)
 
 pub repair-spec : {M : Type 1} → statement M
 repair-spec =

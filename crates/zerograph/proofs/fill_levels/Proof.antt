@@ -1,4 +1,4 @@
--- Fill_levels puts in one junction after another. Assumes nothing.
+-- Fill_levels puts in one junction a turn. The invariant: the first k junctions are in the table. The measure is the junctions to come. Assumes nothing.
 use Prim.Native.Nat.{_-_, _≤_}
 use native.Mathlib.Omega.{arith}
 use borrow.Author.Needs.{needs}
@@ -12,6 +12,13 @@ Inv-loop n potential values₀ sets₀ k₀ values sets k = (k ≤ n) × Levels 
 
 abbrev μ-loop : tie.MeasureT-loop
 μ-loop n potential values₀ sets₀ k₀ values sets k = n - k
+
+-- the place where the key of a turn is known, and the loop before it
+abbrev at-key : tie.After-sets Inv-loop μ-loop → tie.After-key-of Inv-loop μ-loop
+at-key c = c .before .before .before .before .before
+
+abbrev at-loop : tie.After-sets Inv-loop μ-loop → tie.At-loop Inv-loop μ-loop
+at-loop c = at-key c .before .before .before
 
 loop-holds : tie.Need-loop-holds Inv-loop μ-loop
 loop-holds c = search needs
@@ -68,11 +75,12 @@ loop-less : tie.Need-loop-less Inv-loop μ-loop
 loop-less c = search needs
 
 loop-again : tie.Need-loop-again Inv-loop μ-loop
-loop-again c = let keyed = c .before .before .before .before .before in let l = keyed .before .before .before in let a = l .before .args in (
-  omega arith,
-  levels-more (l .loop .k) (keyed .key-of .result) (c .before .before .settled .result) (c .before .lone .result) (a .potential .now) (l .loop .values) (l .loop .sets) (l .loop .inv .1)
-      (keyed .key-of .ensures .0) (c .before .before .settled .ensures) (c .before .lone .ensures),
-)
+loop-again c =
+    let here = c .before .lone in let kept = c .before .before .settled in let key = at-key c .key-of in
+    let l = at-loop c .loop in let a = at-loop c .before .args in (
+      omega arith,
+      levels-more (l .k) (key .result) (kept .result) (here .result) (a .potential .now) (l .values) (l .sets) (l .inv .1) (key .ensures .0) (kept .ensures) (here .ensures),
+    )
 
 returns : tie.Need-returns Inv-loop μ-loop
 returns c = let l = c .before .loop in let a = c .before .before .args in levels-all (l .k) (a .n) (a .potential .now) (l .values) (l .sets) (l .inv .0) (c .loop-test .left) (l .inv .1)

@@ -1,4 +1,4 @@
--- Level finds the junctions of the set at one potential: those taken and those left make up the whole. Assumes nothing.
+-- Level takes one junction of the set a turn. The invariant: those found and, of those left, the ones at the value make up the whole. The measure is what is left, as a number. Assumes nothing.
 use mathlib.Core.Path.{_≡_, refl, sym, ap, _∙_}
 use mathlib.Core.Bool.{Bool, _&&_}
 use mathlib.Core.List.{List}
@@ -23,6 +23,10 @@ Inv-loop set potential value found₀ rest₀ found rest = (rest < 2 ^ 64) × Fo
 abbrev μ-loop : tie.MeasureT-loop
 μ-loop set potential value found₀ rest₀ found rest = rest
 
+-- the loop, from the end of a turn
+abbrev at-loop : tie.After-lone Inv-loop μ-loop → tie.At-loop Inv-loop μ-loop
+at-loop c = c .before .before .before .before
+
 loop-holds : tie.Need-loop-holds Inv-loop μ-loop
 loop-holds c = let a = c .args in (omega arith, found-none (λ y. eqb (a .value) (at (a .potential .now) y)) (a .set))
 
@@ -42,15 +46,16 @@ sub-rest : tie.Need-sub-rest Inv-loop μ-loop
 sub-rest c = search needs
 
 loop-less : tie.Need-loop-less Inv-loop μ-loop
-loop-less c = let rest = c .before .before .before .before .loop .rest in omega (arith, and-le-r rest (rest - 1))
+loop-less c = let rest = at-loop c .loop .rest in omega (arith, and-le-r rest (rest - 1))
 
 loop-again : tie.Need-loop-again Inv-loop μ-loop
-loop-again c = let low = c .before .before in let l = low .before .before in let a = l .before .args in let rest = l .loop .rest in
+loop-again c =
+    let low = c .before .before .lowest in let l = at-loop c .loop in let a = at-loop c .before .args in let rest = l .rest in
     let test : ℕ → Bool = λ y. eqb (a .value) (at (a .potential .now) y) in
-    let same : test (suc (low .lowest .result)) ≡ eqb (a .value) (getD (a .potential .now) (low .lowest .result) 0) = test-at (a .value) (a .potential .now) (low .lowest .result) in (
+    let same : test (suc (low .result)) ≡ eqb (a .value) (getD (a .potential .now) (low .result) 0) = test-at (a .value) (a .potential .now) (low .result) in (
       omega (arith, and-le-r rest (rest - 1)),
-      found-more test (a .set) (l .loop .found) rest (c .lone .result) (low .lowest .result) (omega arith) (l .loop .inv .0) (low .lowest .ensures .0)
-          (λ i k. c .lone .ensures i k ∙ ap (λ (b : Bool). b && eqb i (suc (low .lowest .result))) (sym same)) (l .loop .inv .1),
+      found-more test (a .set) (l .found) rest (c .lone .result) (low .result) (omega arith) (l .inv .0) (low .ensures .0)
+          (λ i k. c .lone .ensures i k ∙ ap (λ (b : Bool). b && eqb i (suc (low .result))) (sym same)) (l .inv .1),
     )
 
 returns : tie.Need-returns Inv-loop μ-loop

@@ -1,7 +1,12 @@
--- Row_arcs has the arcs of the first k rows. Assumes nothing.
-use Prim.Native.Nat.{ℕ, _-_, _≤_}
+-- Row_arcs adds the arcs of one row a turn. The invariant: the sets hold the arcs of the first k rows. The measure is the rows to come. Assumes nothing.
+use mathlib.Core.Path.{_≡_, ap, _∙_}
+use mathlib.Core.Bool.{Bool, false, _&&_}
+use Prim.Native.Nat.{ℕ, suc, _+_, _-_, _≤_}
 use native.Mathlib.Omega.{arith}
+use lib.Dec.{eqb}
+use lib.ListN.{getD}
 use borrow.Author.Needs.{needs}
+use Rattle.junctions.specs.Sets.{holds}
 use Rattle.hall.specs.Hall.{Hall}
 use Rattle.columns.specs.Columns.{at, flagged, Columns}
 use Rattle.zerograph.specs.Zero.{Row-arcs}
@@ -15,6 +20,19 @@ Inv-loop count tails heads costs movable chosen potential arcs₀ k₀ arcs k = 
 abbrev μ-loop : tie.MeasureT-loop
 μ-loop count tails heads costs movable chosen potential arcs₀ k₀ arcs k = count - k
 
+-- the places of the code: the row of a turn, its ends and its arcs, from the ones after them
+abbrev at-row : tie.After-place2 Inv-loop μ-loop → tie.In-loop Inv-loop μ-loop
+at-row c = c .before .before .before .before
+
+abbrev at-ends : tie.After-no-gap-arg3 Inv-loop μ-loop → tie.After-place2 Inv-loop μ-loop
+at-ends c = c .before .before .before
+
+abbrev at-gap : tie.After-lone Inv-loop μ-loop → tie.After-no-gap Inv-loop μ-loop
+at-gap c = c .before .before
+
+abbrev at-opened : tie.After-lone2 Inv-loop μ-loop → tie.After-lone Inv-loop μ-loop
+at-opened c = c .before .before .before
+
 loop-holds : tie.Need-loop-holds Inv-loop μ-loop
 loop-holds c = (omega arith, λ h n cols. row-arcs-none h (flagged (c .args .movable .now)) (at (c .args .costs .now)) (at (c .args .potential .now)) (flagged (c .args .chosen .now)))
 
@@ -22,40 +40,39 @@ element-copy-out-place : tie.Need-element-copy-out-place Inv-loop μ-loop
 element-copy-out-place c = search needs
 
 place-requires : tie.Need-place-requires Inv-loop μ-loop
-place-requires c κs = let s = c .before .before .before in let k = c .before .before .loop .k in let less = c .before .loop-test .taken in
-    (s .pre .0 .tail-low k less, s .pre .0 .tail-high k less)
+place-requires c κs = let row = c .before in let l = row .before in let s = l .before in
+    (s .pre .0 .tail-low (l .loop .k) (row .loop-test .taken), s .pre .0 .tail-high (l .loop .k) (row .loop-test .taken))
 
 element-copy-out-place-2 : tie.Need-element-copy-out-place-2 Inv-loop μ-loop
 element-copy-out-place-2 c = search needs
 
 place-requires-2 : tie.Need-place-requires-2 Inv-loop μ-loop
-place-requires-2 c κs = let t = c .before .before .before in let s = t .before .before in let k = t .before .loop .k in let less = t .loop-test .taken in
-    (s .pre .0 .head-low k less, s .pre .0 .head-high k less)
+place-requires-2 c κs = let row = c .before .before .before in let l = row .before in let s = l .before in
+    (s .pre .0 .head-low (l .loop .k) (row .loop-test .taken), s .pre .0 .head-high (l .loop .k) (row .loop-test .taken))
+
+mul-no-gap : tie.Need-mul-no-gap Inv-loop μ-loop
+mul-no-gap c = search needs
+
+element-copy-out-no-gap : tie.Need-element-copy-out-no-gap Inv-loop μ-loop
+element-copy-out-no-gap c = search needs
+
+mul-no-gap-2 : tie.Need-mul-no-gap-2 Inv-loop μ-loop
+mul-no-gap-2 c = search needs
+
+element-copy-out-no-gap-2 : tie.Need-element-copy-out-no-gap-2 Inv-loop μ-loop
+element-copy-out-no-gap-2 c = search needs
+
+mul-no-gap-3 : tie.Need-mul-no-gap-3 Inv-loop μ-loop
+mul-no-gap-3 c = search needs
+
+element-copy-out-no-gap-3 : tie.Need-element-copy-out-no-gap-3 Inv-loop μ-loop
+element-copy-out-no-gap-3 c = search needs
+
+no-gap-requires : tie.Need-no-gap-requires Inv-loop μ-loop
+no-gap-requires c κs = let l = at-row (at-ends c) .before in let s = l .before in omega (arith, s .pre .1 (l .loop .k), s .pre .2 (at-ends c .before .before .place .result))
 
 element-copy-out-lone : tie.Need-element-copy-out-lone Inv-loop μ-loop
 element-copy-out-lone c = search needs
-
-mul-lone : tie.Need-mul-lone Inv-loop μ-loop
-mul-lone c = search needs
-
-element-copy-out-lone-2 : tie.Need-element-copy-out-lone-2 Inv-loop μ-loop
-element-copy-out-lone-2 c = search needs
-
-mul-lone-2 : tie.Need-mul-lone-2 Inv-loop μ-loop
-mul-lone-2 c = search needs
-
-element-copy-out-lone-3 : tie.Need-element-copy-out-lone-3 Inv-loop μ-loop
-element-copy-out-lone-3 c = search needs
-
-mul-lone-3 : tie.Need-mul-lone-3 Inv-loop μ-loop
-mul-lone-3 c = search needs
-
-element-copy-out-lone-4 : tie.Need-element-copy-out-lone-4 Inv-loop μ-loop
-element-copy-out-lone-4 c = search needs
-
-add-lone : tie.Need-add-lone Inv-loop μ-loop
-add-lone c = let t = c .before .before .before .before .before .before in let s = t .before .before .before .before in
-    record { fits = omega (arith, s .pre .1 (t .before .before .before .loop .k), s .pre .2 (t .place .result)) }
 
 lone-requires : tie.Need-lone-requires Inv-loop μ-loop
 lone-requires c κs = search needs
@@ -72,11 +89,11 @@ mul-arcs-2 c = search needs
 array-write-arcs : tie.Need-array-write-arcs Inv-loop μ-loop
 array-write-arcs c = search needs
 
-element-copy-out-lone-5 : tie.Need-element-copy-out-lone-5 Inv-loop μ-loop
-element-copy-out-lone-5 c = search needs
+element-copy-out-lone-2 : tie.Need-element-copy-out-lone-2 Inv-loop μ-loop
+element-copy-out-lone-2 c = search needs
 
-element-copy-out-lone-6 : tie.Need-element-copy-out-lone-6 Inv-loop μ-loop
-element-copy-out-lone-6 c = search needs
+element-copy-out-lone-3 : tie.Need-element-copy-out-lone-3 Inv-loop μ-loop
+element-copy-out-lone-3 c = search needs
 
 lone-requires-2 : tie.Need-lone-requires-2 Inv-loop μ-loop
 lone-requires-2 c κs = search needs
@@ -100,12 +117,16 @@ loop-less : tie.Need-loop-less Inv-loop μ-loop
 loop-less c = search needs
 
 loop-again : tie.Need-loop-again Inv-loop μ-loop
-loop-again c = let two = c .before .before .before .before .before .before .before .before in let one = two .before .before in
-    let test = one .before .before in let l = test .before in let a = l .before .args in (
+loop-again c =
+    let closed = c .lone2 in let opened = at-opened c .lone in let gap = at-gap (at-opened c) .no-gap in
+    let ends = at-ends (at-gap (at-opened c) .before) in let tail = ends .before .before .place in let head = ends .place2 in
+    let row = at-row ends in let l = row .before .loop in let a = row .before .before .args in
+    let open-is : (i : ℕ) → 1 ≤ i → holds (opened .result) i ≡ ((getD (a .movable .now) (l .k) false && eqb (getD (a .potential .now) (head .result) 0) (getD (a .potential .now) (tail .result) 0 + getD (a .costs .now) (l .k) 0)) && eqb i (suc (tail .result))) =
+    λ i low. opened .ensures i low ∙ ap (λ (b : Bool). (getD (a .movable .now) (l .k) false && b) && eqb i (suc (tail .result))) (gap .ensures) in (
       omega arith,
       λ h n cols. row-arcs-more h n (a .count) (a .tails .now) (a .heads .now) (a .costs .now) (a .movable .now) (a .chosen .now) (a .potential .now) cols
-          (l .loop .k) (one .place .result) (two .place2 .result) (test .loop-test .taken) (one .place .ensures .0) (two .place2 .ensures .0) (l .loop .arcs)
-          (c .before .before .before .lone .result) (c .lone2 .result) (one .place .ensures .1) (two .place2 .ensures .1) (c .before .before .before .lone .ensures) (c .lone2 .ensures) (l .loop .inv .1 h n cols),
+          (l .k) (tail .result) (head .result) (row .loop-test .taken) (tail .ensures .0) (head .ensures .0) (l .arcs)
+          (opened .result) (closed .result) (tail .ensures .1) (head .ensures .1) open-is (closed .ensures) (l .inv .1 h n cols),
     )
 
 returns : tie.Need-returns Inv-loop μ-loop
@@ -123,21 +144,21 @@ row-arcs-spec =
     place-requires
     element-copy-out-place-2
     place-requires-2
+    mul-no-gap
+    element-copy-out-no-gap
+    mul-no-gap-2
+    element-copy-out-no-gap-2
+    mul-no-gap-3
+    element-copy-out-no-gap-3
+    no-gap-requires
     element-copy-out-lone
-    mul-lone
-    element-copy-out-lone-2
-    mul-lone-2
-    element-copy-out-lone-3
-    mul-lone-3
-    element-copy-out-lone-4
-    add-lone
     lone-requires
     mul-arcs
     array-read-arcs
     mul-arcs-2
     array-write-arcs
-    element-copy-out-lone-5
-    element-copy-out-lone-6
+    element-copy-out-lone-2
+    element-copy-out-lone-3
     lone-requires-2
     mul-arcs-3
     array-read-arcs-2
