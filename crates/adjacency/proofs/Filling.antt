@@ -11,6 +11,7 @@ use lib.ListN.{length, getD, set, replicate, length-set}
 use lib.Pow.{pow-pos}
 use lib.Seq.{getD-set-same, getD-set-other}
 use borrow.Author.Tests.{eqb-true, eqb-false, eq-eqb, ne-eqb}
+use Rattle.laws.specs.Lists.{at}
 use Rattle.laws.specs.Finite.{any-below}
 use Rattle.laws.proofs.Booleans.{by-bool}
 use Rattle.laws.proofs.Agree.{any-ext}
@@ -21,7 +22,7 @@ use Rattle.junctions.proofs.Sets.{or-holds, one-holds, none-holds, sets-ext, ga
 use Rattle.junctions.proofs.Single.{one-lt}
 use Rattle.hall.specs.Hall.{Hall, row}
 use Rattle.dicuts.specs.Arcs.{arc, arcs}
-use Rattle.columns.specs.Columns.{at, flagged, Ends, Columns, Arcs}
+use Rattle.columns.specs.Columns.{flagged, Ends, Columns, Arcs}
 use Rattle.columns.proofs.Places.{place-tail, place-head}
 
 -- the row at place k leads from x to y: forward, or backward if it is flagged

@@ -16,7 +16,7 @@ use Rattle.hall.specs.Hall.{Hall, Row, row, row-of, count, enters, is-choice, m
 use Rattle.hall.specs.Plan.{Cut, Beside, load, loads-fit, weight-sum, total}
 use Rattle.dicuts.specs.Shores.{Ranged, Linked, Tight, once, cover}
 use Rattle.dicuts.proofs.Choices.{over-members, total-over}
-use Rattle.laminar.specs.Families.{shores}
+use Rattle.laminar.specs.Families.{shore-family}
 use Rattle.laminar.proofs.Few.{few-cuts}
 use Rattle.potentials.specs.Potential.{Under, Paid, cost}
 use Rattle.certificates.specs.Certificate.{Certificate}
@@ -37,18 +37,18 @@ entered m (suc n) a b =
 
 module _ (h : Hall) (F : ℕ → Bool) where
   -- cuts that one row of the set enters weigh as much as the set is loaded
-  loads-weigh : (ks : List Cut) → ((s : ℕ) → shores ks s ≡ true → Tight h (once F) s) → weight-sum ks ≡ sum-below (count h) (λ k. cond (F (suc k)) (load ks (row h (suc k))) 0)
-  unfolding weight-sum load shores once cover
+  loads-weigh : (ks : List Cut) → ((s : ℕ) → shore-family ks s ≡ true → Tight h (once F) s) → weight-sum ks ≡ sum-below (count h) (λ k. cond (F (suc k)) (load ks (row h (suc k))) 0)
+  unfolding weight-sum load shore-family once cover
   loads-weigh [] tight = sym (sum-zero (count h) (λ k. cond (F (suc k)) 0 0) (λ k l. by-bool (F (suc k)) (λ e. rw e) (λ e. rw e)))
   loads-weigh (c ∷ cs) tight =
       let here : ℕ → ℕ = λ k. cond (F (suc k)) (cond (enters (c .shore) (row h (suc k))) (c .weight) 0) 0 in
       let later : ℕ → ℕ = λ k. cond (F (suc k)) (load cs (row h (suc k))) 0 in
       let split = sum-ext (count h) (λ k. cond (F (suc k)) (cond (enters (c .shore) (row h (suc k))) (c .weight) 0 + load cs (row h (suc k))) 0) (λ k. here k + later k)
       (λ k l. cond-add (F (suc k)) (cond (enters (c .shore) (row h (suc k))) (c .weight) 0) (load cs (row h (suc k)))) in
-      let first = tight (c .shore) (or-l (eqb (c .shore) (c .shore)) (shores cs (c .shore)) (eq-eqb (c .shore) (c .shore) refl)) in
+      let first = tight (c .shore) (or-l (eqb (c .shore) (c .shore)) (shore-family cs (c .shore)) (eq-eqb (c .shore) (c .shore) refl)) in
       let once-each : sum-below (count h) here ≡ c .weight * 1 =
       entered (c .weight) (count h) (λ k. F (suc k)) (λ k. enters (c .shore) (row h (suc k))) ∙ ap (λ (m : ℕ). c .weight * m) (first .one) in
-      let rest = loads-weigh cs (λ s e. tight s (or-r (eqb (c .shore) s) (shores cs s) e)) in
+      let rest = loads-weigh cs (λ s e. tight s (or-r (eqb (c .shore) s) (shore-family cs s) e)) in
       omega (arith, split, once-each, rest, sum-add (count h) here later)
 
   module _ (c p : ℕ → ℕ) (ks : List Cut) (proof : Certificate h (once F) p ks) (under : Under h c p) where

@@ -18,7 +18,7 @@ use Rattle.dicuts.proofs.Shores.{shore-cut}
 use Rattle.laminar.proofs.Cross.{uncrossed}
 use Rattle.laminar.proofs.CrossFree.{crossing-swap}
 use Rattle.potentials.specs.Potential.{Parted}
-use Rattle.certificates.specs.Cuts.{upper, over-levels, weight, cuts, weigh}
+use Rattle.certificates.specs.Cuts.{upper, over-levels, weight, cuts, weight-where}
 use Rattle.certificates.specs.Certificate.{Certificate}
 use Rattle.certificates.proofs.Classes.{upper-lt, upper-holds, upper-saturated}
 use Rattle.certificates.proofs.Uncrossed.{shore-tight, shores-uncross}
@@ -69,7 +69,7 @@ module _ (h : Hall) (ranged : Ranged h) (x p : ℕ → ℕ) (joins : Joining h x
       (λ e. shores-uncross h ranged x joins u t u-lt t-lt u-sat t-sat (upper-falls (h .n) p (suc (f .0)) (suc (g .0)) (omega (arith, leb-true (g .0) (f .0) e))) s r (f .2) (g .2) c)
       (λ e. shores-uncross h ranged x joins t u t-lt u-lt t-sat u-sat (upper-falls (h .n) p (suc (g .0)) (suc (f .0)) (omega (arith, leb-false (g .0) (f .0) e))) r s (g .2) (f .2) (crossing-swap c)))
 
-  pub cuts-weigh : (t : ℕ → Bool) → weigh t (cuts h x p top) ≡ over-levels h x p top (λ s. one-if (t s))
+  pub cuts-weigh : (t : ℕ → Bool) → weight-where t (cuts h x p top) ≡ over-levels h x p top (λ s. one-if (t s))
   unfolding cuts
   cuts-weigh t =
       let w = weight h x p top in

@@ -15,22 +15,22 @@ use Rattle.laws.proofs.Finite.{sum-ext}
 use Rattle.junctions.specs.Sets.{holds}
 use Rattle.hall.specs.Hall.{Hall, Row, enters, is-cut}
 use Rattle.hall.specs.Plan.{Cut, cut, cross, none-cross, cuts-good, load, level-sum}
-use Rattle.laminar.specs.Families.{shores}
-use Rattle.certificates.specs.Cuts.{listing, weigh}
+use Rattle.laminar.specs.Families.{shore-family}
+use Rattle.certificates.specs.Cuts.{listing, weight-where}
 
-pub load-weigh : (ks : List Cut) (r : Row) → load ks r ≡ weigh (λ s. enters s r) ks
-unfolding load weigh
+pub load-weigh : (ks : List Cut) (r : Row) → load ks r ≡ weight-where (λ s. enters s r) ks
+unfolding load weight-where
 load-weigh [] r = refl
 load-weigh (c ∷ cs) r = ap (λ (m : ℕ). cond (enters (c .shore) r) (c .weight) 0 + m) (load-weigh cs r)
 
-pub level-weigh : (ks : List Cut) (j : ℕ) → level-sum j ks ≡ weigh (λ s. holds s j) ks
-unfolding level-sum weigh
+pub level-weigh : (ks : List Cut) (j : ℕ) → level-sum j ks ≡ weight-where (λ s. holds s j) ks
+unfolding level-sum weight-where
 level-weigh [] j = refl
 level-weigh (c ∷ cs) j = ap (λ (m : ℕ). cond (holds (c .shore) j) (c .weight) 0 + m) (level-weigh cs j)
 
 module _ (w : ℕ → ℕ) where
-  pub listing-weigh : (t : ℕ → Bool) (k s : ℕ) → weigh t (listing k s w) ≡ sum-below k (λ i. cond (t (s + i)) (w (s + i)) 0)
-  unfolding weigh listing sum-below cut
+  pub listing-weigh : (t : ℕ → Bool) (k s : ℕ) → weight-where t (listing k s w) ≡ sum-below k (λ i. cond (t (s + i)) (w (s + i)) 0)
+  unfolding weight-where listing sum-below cut
   listing-weigh t zero s = refl
   listing-weigh t (suc k) s =
       let f : ℕ → ℕ = λ i. cond (t i) (w i) 0 in
@@ -42,14 +42,14 @@ module _ (w : ℕ → ℕ) where
       (λ e. rw e (omega (arith, sum-head k (λ i. f (s + i)))))
       (λ e. rw e (omega (arith, sum-head k (λ i. f (s + i)), cond-zero (t s) (w s) (let z = ltb-false 0 (w s) e in omega arith))))
 
-  pub listing-shores : (k s i : ℕ) → shores (listing k s w) i ≡ true → 0 < w i
-  unfolding shores listing cut
+  pub listing-shores : (k s i : ℕ) → shore-family (listing k s w) i ≡ true → 0 < w i
+  unfolding shore-family listing cut
   listing-shores zero s i = λ e. clash e refl
   listing-shores (suc k) s i =
       by-bool (ltb 0 (w s))
       (λ t. rw t (λ e.
-      ⊎-elim (λ (q : eqb s i ≡ true). omega (arith, ltb-true 0 (w s) t, ap w (eqb-true s i q))) (λ (q : shores (listing k (suc s) w) i ≡ true). listing-shores k (suc s) i q)
-      (or-cases (eqb s i) (shores (listing k (suc s) w) i) e)))
+      ⊎-elim (λ (q : eqb s i ≡ true). omega (arith, ltb-true 0 (w s) t, ap w (eqb-true s i q))) (λ (q : shore-family (listing k (suc s) w) i ≡ true). listing-shores k (suc s) i q)
+      (or-cases (eqb s i) (shore-family (listing k (suc s) w) i) e)))
       (λ t. rw t (λ e. listing-shores k (suc s) i e))
 
   module _ (h : Hall) (apart : (i j : ℕ) → 0 < w i → 0 < w j → cross (h .n) i j ≡ false) where

@@ -84,6 +84,6 @@ unfoldable pub cuts : Hall → (x p : ℕ → ℕ) → (top : ℕ) → List Cut
 cuts h x p top = listing (2 ^ h .n) 0 (weight h x p top)
 
 -- the weights of the listed cuts whose shore passes the test, added up
-unfoldable pub weigh : (t : ℕ → Bool) → List Cut → ℕ
-weigh t [] = 0
-weigh t (c ∷ cs) = cond (t (c .shore)) (c .weight) 0 + weigh t cs
+unfoldable pub weight-where : (t : ℕ → Bool) → List Cut → ℕ
+weight-where t [] = 0
+weight-where t (c ∷ cs) = cond (t (c .shore)) (c .weight) 0 + weight-where t cs

@@ -10,6 +10,7 @@ use lib.Bits.{bitAnd, and-le-r}
 use lib.Dec.{eqb}
 use lib.Pow.{pow-lt, pow-pos}
 use borrow.Author.Tests.{eq-eqb, ne-eqb, eqb-true, eqb-false}
+use Rattle.laws.specs.Lists.{at}
 use Rattle.laws.proofs.Booleans.{by-bool, and-l}
 use Rattle.junctions.specs.Sets.{full, holds, Within}
 use Rattle.junctions.proofs.Bits.{one-shl}
@@ -17,7 +18,6 @@ use Rattle.junctions.proofs.Bounds.{junction-le}
 use Rattle.junctions.proofs.Sets.{and-holds, full-lt, gather-lt, some-junction, within-both, within-full}
 use Rattle.junctions.proofs.Single.{one-lt, one-within}
 use Rattle.digraph.specs.Reach.{Closed, Reach}
-use Rattle.digraph.specs.Adjacency.{out-of}
 use Rattle.digraph.specs.Closure.{closure}
 use Rattle.digraph.proofs.Closure.{closure-reach, closure-lt, reach-unique, reach-narrow, reach-narrow-lt}
 use Rattle.digraph.proofs.Same.{reach-same}
@@ -29,7 +29,7 @@ use Rattle.adjacency.proofs.Arcs.{arcs-ext}
 use Rattle.joining.proofs.Reached.{reached-is, reached-lt}
 use Rattle.junctions.proofs.Members.{holds-some}
 use Rattle.joining.proofs.Joins.{reached-start}
-use Rattle.choice.specs.Short.{Inside, Until, short-from, if-some}
+use Rattle.choice.specs.Short.{Arcs-inside, Until, short-from, if-some}
 
 module _ (all : ℕ) (f : ℕ → ℕ) (n : ℕ) where
   pub short-more : (j : ℕ) → j < n → f (suc j) ≡ all → short-from (n - j) (suc j) all f ≡ short-from (n - (j + 1)) (suc (j + 1)) all f
@@ -47,8 +47,8 @@ module _ (all : ℕ) (f : ℕ → ℕ) (n : ℕ) where
   short-end j i h = let m : n - j ≡ 0 = omega arith in rw m
 
 -- what the code's reach gives is the closure among the first n junctions
-pub reach-is-closure : (n : ℕ) (out : ℕ → ℕ) (j r : ℕ) → n ≤ 64 → Inside n out → j < n → Reach 64 out ((1 * 2 ^ j) % 2 ^ 64) r → r ≡ closure n out (2 ^ (suc j - 1))
-unfolding Inside
+pub reach-is-closure : (n : ℕ) (out : ℕ → ℕ) (j r : ℕ) → n ≤ 64 → Arcs-inside n out → j < n → Reach 64 out ((1 * 2 ^ j) % 2 ^ 64) r → r ≡ closure n out (2 ^ (suc j - 1))
+unfolding Arcs-inside
 reach-is-closure n out j r small inside h e =
     let q : suc j - 1 ≡ j = omega arith in
     let few : 2 ^ j < 2 ^ n = pow-lt {i = j} {j = n} h in
@@ -65,11 +65,11 @@ pub known-more : (n : ℕ) (out : ℕ → ℕ) (j : ℕ) → Known n out j → c
 known-more n out j known e i l m =
     by-bool (eqb i (suc j)) (λ t. ap (λ (k : ℕ). closure n out (2 ^ (k - 1))) (eqb-true i (suc j) t) ∙ e) (λ t. known i l (omega (arith, eqb-false i (suc j) t)))
 
-module _ (n : ℕ) (out : ℕ → ℕ) (inside : Inside n out) where
+module _ (n : ℕ) (out : ℕ → ℕ) (inside : Arcs-inside n out) where
   -- what a junction that is met reaches, the start reaches too
   closure-through : (start goal r y : ℕ) → start < 2 ^ n → Until out start goal r → 1 ≤ y → y ≤ n → holds r y ≡ true
       → Within (closure n out (2 ^ (y - 1))) (closure n out start)
-  unfolding Inside Within Closed
+  unfolding Arcs-inside Within Closed
   closure-through start goal r y few u l m h =
       let c = closure n out start in
       let all = closure-reach n out start few inside in
@@ -121,17 +121,17 @@ module _ (h : Hall) (rg : Ranged h) (c : List ℕ) (out : ℕ → ℕ) (same : (
 
 -- over arrays: the code's adjacency stays inside the hall, and what it finds is missed
 module _ (h : Hall) (n m : ℕ) (tails heads : List ℕ) (cols : Columns h n m tails heads) (flags : List Bool) (sets : List ℕ) (is-arcs : Arcs h (flagged flags) sets) where
-  pub arcs-inside : Inside n (out-of sets)
-  unfolding Inside Arcs arcs
+  pub arcs-inside : Arcs-inside n (at sets)
+  unfolding Arcs-inside Arcs arcs
   arcs-inside j l u =
-      let e : out-of sets j ≡ arcs h (flagged flags) j = is-arcs j l (omega (arith, cols .junctions)) in
+      let e : at sets j ≡ arcs h (flagged flags) j = is-arcs j l (omega (arith, cols .junctions)) in
       let small : arcs h (flagged flags) j < 2 ^ h .n = gather-lt (h .n) (arc h (flagged flags) j) in
       omega (arith, e, small, ap (λ (k : ℕ). 2 ^ k) (cols .junctions))
 
   pub arcs-missed : (c : List ℕ) → Ranged h → ((i : ℕ) → 1 ≤ i → i ≤ m → flagged flags i ≡ member i c) → (r : ℕ)
-      → r ≡ short-from n 1 (full n) (λ j. closure n (out-of sets) (2 ^ (j - 1))) → if-some r ≡ missed h c
+      → r ≡ short-from n 1 (full n) (λ j. closure n (at sets) (2 ^ (j - 1))) → if-some r ≡ missed h c
   unfolding Arcs
   arcs-missed c rg same r e =
-      ap if-some (e ∙ ap (λ (k : ℕ). short-from k 1 (full k) (λ j. closure k (out-of sets) (2 ^ (j - 1)))) (sym (cols .junctions)))
-      ∙ found-missed h rg c (out-of sets)
+      ap if-some (e ∙ ap (λ (k : ℕ). short-from k 1 (full k) (λ j. closure k (at sets) (2 ^ (j - 1)))) (sym (cols .junctions)))
+      ∙ found-missed h rg c (at sets)
       (λ j l u. is-arcs j l u ∙ arcs-ext h (flagged flags) (λ i. member i c) (λ i p q. same i p (omega (arith, cols .rows))) j)

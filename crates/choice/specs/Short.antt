@@ -9,8 +9,8 @@ use Rattle.junctions.specs.Sets.{Within}
 use Rattle.digraph.specs.Reach.{Closed, Reach}
 
 -- arcs lead from the junctions 1 to n to these only
-unfoldable pub Inside : (n : ℕ) → (out : ℕ → ℕ) → Type 0
-Inside n out = (j : ℕ) → 1 ≤ j → j ≤ n → out j < 2 ^ n
+unfoldable pub Arcs-inside : (n : ℕ) → (out : ℕ → ℕ) → Type 0
+Arcs-inside n out = (j : ℕ) → 1 ≤ j → j ≤ n → out j < 2 ^ n
 
 -- a part of what is reached from the start: all of it, unless it holds a junction of the goal
 pub record Until (out : ℕ → ℕ) (start goal r : ℕ) : Type 0 where

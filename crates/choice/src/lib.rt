@@ -4,13 +4,13 @@ ghost use mathlib.Core.Bool.{Bool, true, false};
 ghost use mathlib.Core.List.{List};
 ghost use Prim.Native.Nat.{ℕ, suc, _-_, _^_, _≤_, _<_};
 ghost use lib.ListN.{length, getD};
+ghost use Rattle.laws.specs.Lists.{at};
 ghost use Rattle.junctions.specs.Sets.{full};
-ghost use Rattle.digraph.specs.Adjacency.{out-of};
 ghost use Rattle.digraph.specs.Closure.{closure};
 ghost use Rattle.hall.specs.Hall.{Hall, ascends-from, member, missed};
 ghost use Rattle.dicuts.specs.Shores.{Ranged};
 ghost use Rattle.columns.specs.Columns.{Ends, Columns, flagged};
-ghost use Rattle.choice.specs.Short.{Inside, Until, short-from, if-some};
+ghost use Rattle.choice.specs.Short.{Arcs-inside, Until, short-from, if-some};
 use junctions::Junctions;
 
 // The numbers ascend strictly from 1 up to the limit.
@@ -51,7 +51,7 @@ pub fn flags(numbers: &[u32]) -> [bool; 256]
 
 // What a search from the start has reached when it first holds a junction of the goal, or when it ends.
 fn reach_until(adjacency: &[u64; 64], start: u64, goal: u64) -> u64
-    ensures { λ r. ⌜ Until (out-of (now (adjacency .entry))) start goal r ⌝ }
+    ensures { λ r. ⌜ Until (at (now (adjacency .entry))) start goal r ⌝ }
 {
     let mut reached = start;
     let mut todo = start;
@@ -70,8 +70,8 @@ fn reach_until(adjacency: &[u64; 64], start: u64, goal: u64) -> u64
 // What the lowest of the junctions 1 to n that does not reach all reaches; 0 where each reaches all.
 // The junctions before one are known to reach all: a search that meets one of them need not go on.
 pub fn shortfall(adjacency: &[u64; 64], n: usize) -> u64
-    requires { ⌜ (n ≤ 64) × Inside n (out-of (now adjacency)) ⌝ }
-    ensures { λ r. ⌜ r ≡ short-from n 1 (full n) (λ (j : ℕ). closure n (out-of (now (adjacency .entry))) (2 ^ (j - 1))) ⌝ }
+    requires { ⌜ (n ≤ 64) × Arcs-inside n (at (now adjacency)) ⌝ }
+    ensures { λ r. ⌜ r ≡ short-from n 1 (full n) (λ (j : ℕ). closure n (at (now (adjacency .entry))) (2 ^ (j - 1))) ⌝ }
 {
     let all = Junctions::full(n).0;
     let mut j: usize = 0;

@@ -12,11 +12,11 @@ use Rattle.hall.specs.Hall.{Hall, count, ascends-from, is-choice, member}
 use Rattle.hall.specs.Plan.{earlier}
 use Rattle.dicuts.proofs.Choices.{ascends-low, ascends-high, ascends-rest}
 use Rattle.order.proofs.Dictionary.{earlier-cases}
-use Rattle.choicelists.specs.Listed.{Leads}
+use Rattle.choicelists.specs.Listed.{Differs-first}
 use Rattle.choicelists.proofs.Listed.{ascends-members, member-head, member-under}
 
 -- the numbers 1 to m alone decide
-pub leads-ext : (m : ℕ) {F G A B : ℕ → Bool} → ((i : ℕ) → 1 ≤ i → i ≤ m → F i ≡ A i) → ((i : ℕ) → 1 ≤ i → i ≤ m → G i ≡ B i) → Leads m F G → Leads m A B
+pub leads-ext : (m : ℕ) {F G A B : ℕ → Bool} → ((i : ℕ) → 1 ≤ i → i ≤ m → F i ≡ A i) → ((i : ℕ) → 1 ≤ i → i ≤ m → G i ≡ B i) → Differs-first m F G → Differs-first m A B
 leads-ext m f g w = record {
   at = w .at;
   low = w .low;
@@ -29,8 +29,8 @@ leads-ext m f g w = record {
 }
 
 module _ (l : ℕ) where
-  leads-before : (x y : ℕ) (xs ys : List ℕ) → x ≡ y → ascends-from (suc x) l xs ≡ true → Leads l (λ i. member i xs) (λ i. member i ys) →
-      Leads l (λ i. member i (x ∷ xs)) (λ i. member i (y ∷ ys))
+  leads-before : (x y : ℕ) (xs ys : List ℕ) → x ≡ y → ascends-from (suc x) l xs ≡ true → Differs-first l (λ i. member i xs) (λ i. member i ys) →
+      Differs-first l (λ i. member i (x ∷ xs)) (λ i. member i (y ∷ ys))
   unfolding member
   leads-before x y xs ys e p w =
       let past = ascends-members l (suc x) xs (w .at) p (w .has) in
@@ -44,7 +44,7 @@ module _ (l : ℕ) where
       }
 
   earlier-leads-from : (a b : ℕ) (c d : List ℕ) → 1 ≤ a → ascends-from a l c ≡ true → ascends-from b l d ≡ true → earlier c d ≡ true →
-      Leads l (λ i. member i c) (λ i. member i d)
+      Differs-first l (λ i. member i c) (λ i. member i d)
   unfolding earlier
   earlier-leads-from a b [] d one p q e = clash e refl
   earlier-leads-from a b (x ∷ xs) [] one p q e = clash e refl
@@ -66,6 +66,6 @@ module _ (l : ℕ) where
 
 module _ (h : Hall) where
   pub earlier-leads : (c d : List ℕ) → is-choice h c ≡ true → is-choice h d ≡ true → earlier c d ≡ true →
-      Leads (count h) (λ i. member i c) (λ i. member i d)
+      Differs-first (count h) (λ i. member i c) (λ i. member i d)
   unfolding is-choice
   earlier-leads c d p q e = earlier-leads-from (count h) 1 1 c d (omega arith) p q e

@@ -15,7 +15,7 @@ unfoldable pub listed : Hall → (rows : ℕ → Bool) → List ℕ
 listed h F = passing (count h) 1 F
 
 -- of the numbers 1 to m, the first in which the two sets differ is in F
-pub record Leads (m : ℕ) (F G : ℕ → Bool) : Type 0 where
+pub record Differs-first (m : ℕ) (F G : ℕ → Bool) : Type 0 where
   pub at : ℕ
   pub low : 1 ≤ at
   pub high : at ≤ m

@@ -4,13 +4,10 @@ use mathlib.Core.Bool.{Bool, false}
 use mathlib.Core.List.{List}
 use Prim.Native.Nat.{ℕ, _-_, _≤_, _<_}
 use lib.ListN.{getD}
+use Rattle.laws.specs.Lists.{at}
 use Rattle.hall.specs.Hall.{Hall, row, count}
 use Rattle.dicuts.specs.Shores.{once, around}
 use Rattle.dicuts.specs.Arcs.{arcs}
-
--- the number of row or junction i
-abbrev pub at : List ℕ → (i : ℕ) → ℕ
-at xs i = getD xs (i - 1) 0
 
 -- flags as a set of rows
 abbrev pub flagged : List Bool → (i : ℕ) → Bool

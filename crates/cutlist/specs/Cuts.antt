@@ -23,10 +23,10 @@ unfoldable pub cuts-of : List Cut → List plan.Cut
 cuts-of cs = map cut-of cs
 
 -- the cut at a place of the two lists
-abbrev pub listed : Lists → ℕ → Cut
-listed l k = lent-cut (getD (l .shores) k 0) (getD (l .weights) k 0)
+abbrev pub listed-cut : Lists → ℕ → Cut
+listed-cut l k = lent-cut (getD (l .shores) k 0) (getD (l .weights) k 0)
 
 -- the next `left` cuts of the two lists from place k on
 unfoldable pub cuts-from : Lists → (k left : ℕ) → List Cut
 cuts-from l k zero = []
-cuts-from l k (suc n) = listed l k ∷ cuts-from l (suc k) n
+cuts-from l k (suc n) = listed-cut l k ∷ cuts-from l (suc k) n

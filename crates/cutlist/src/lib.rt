@@ -3,7 +3,7 @@ ghost use mathlib.Core.Path.{_≡_};
 ghost use Prim.Native.Nat.{_≤_, _<_};
 ghost use mathlib.Core.List.{_++_};
 ghost use lib.ListN.{length, drop};
-ghost use Rattle.cutlist.specs.Cuts.{listed, cuts-from};
+ghost use Rattle.cutlist.specs.Cuts.{listed-cut, cuts-from};
 use junctions::Junctions;
 
 pub struct Cut {
@@ -20,7 +20,7 @@ pub struct Lists {
 // One cut of the two lists.
 pub fn cut_at(lists: Lists, k: usize) -> Cut
     requires { ⌜ k < 125 ⌝ }
-    ensures { λ r. ⌜ r ≡ listed lists k ⌝ }
+    ensures { λ r. ⌜ r ≡ listed-cut lists k ⌝ }
 {
     Cut {
         shore: Junctions(lists.shores[k]),

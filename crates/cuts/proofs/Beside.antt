@@ -6,10 +6,10 @@ use Prim.Native.Nat.{ℕ, _^_, _≤_, _<_}
 use native.Mathlib.Omega.{arith}
 use lib.IntN.{ℤ}
 use lib.ListN.{length}
+use Rattle.laws.specs.Lists.{at}
 use Rattle.laws.specs.Finite.{sum-below, one-if}
 use Rattle.junctions.specs.Sets.{holds}
 use Rattle.junctions.proofs.Gather.{gather-ext}
-use Rattle.digraph.specs.Adjacency.{out-of}
 use Rattle.hall.specs.Hall.{Hall}
 use Rattle.hall.specs.Plan.{Cut}
 use Rattle.dicuts.specs.Shores.{once, around}
@@ -20,9 +20,9 @@ use Rattle.certificates.specs.Cuts.{links, mates, over-shores, over-levels, wei
 use Rattle.certificates.proofs.Components.{links-mutual}
 use Rattle.certificates.proofs.Certificate.{weight-tight, certificate}
 use Rattle.certificates.proofs.Classes.{mates-mutual}
-use Rattle.cuts.specs.Listed.{place-of, weight-in, Listed, Room, Fits, Added, Filled-with, alone, nothing, cuts-in}
+use Rattle.cuts.specs.Listed.{place-of, weight-in, Listed, Weight-room, Fits, Added, Filled-with, alone, nothing, cuts-in}
 use Rattle.cuts.specs.Shores.{components-weigh, classes-weigh, levels-weigh}
-use Rattle.cuts.specs.Thresholds.{mates-by, Under}
+use Rattle.cuts.specs.Thresholds.{mates-by, Under-top}
 use Rattle.cuts.specs.Beside.{Beside-rows, highest}
 use Rattle.cuts.specs.Levels.{Near, Levelled}
 use Rattle.cuts.proofs.Alike.{levels-alike, mutual-alike}
@@ -44,44 +44,44 @@ unfolding weight-in sum-below
 empty-weighs shores weights s = refl
 
 module _ {h : Hall} {F : ℕ → Bool} {n : ℕ} {links-at around-at potential : List ℕ} (mates-at : List ℕ) (b : Beside-rows h F n links-at around-at potential)
-    (mates-are : (a : ℕ) → 1 ≤ a → a ≤ n → out-of mates-at a ≡ mates-by n (out-of around-at) a) where
+    (mates-are : (a : ℕ) → 1 ≤ a → a ≤ n → at mates-at a ≡ mates-by n (at around-at) a) where
   n-is : n ≡ h .n
   n-is = sym (b .junctions)
 
-  pub links-same : (j : ℕ) → 1 ≤ j → j ≤ n → out-of links-at j ≡ links h j
+  pub links-same : (j : ℕ) → 1 ≤ j → j ≤ n → at links-at j ≡ links h j
   unfolding Arcs links
   links-same j l m = b .links-are j l (omega (arith, n-is))
 
-  pub mates-same : (j : ℕ) → 1 ≤ j → j ≤ n → out-of mates-at j ≡ mates h (once F) j
+  pub mates-same : (j : ℕ) → 1 ≤ j → j ≤ n → at mates-at j ≡ mates h (once F) j
   unfolding mates mates-by Neighbourhoods
   mates-same j l m =
       mates-are j l m
       ∙ rw n-is
-      (gather-ext (h .n) (λ c. holds (out-of around-at j) c || holds (out-of around-at c) j) (λ c. holds (around h (once F) j) c || holds (around h (once F) c) j)
+      (gather-ext (h .n) (λ c. holds (at around-at j) c || holds (at around-at c) j) (λ c. holds (around h (once F) j) c || holds (around h (once F) c) j)
       (λ c lc mc. ap₂ _||_ (ap (λ (s : ℕ). holds s c) (b .around-are j l (omega (arith, n-is)))) (ap (λ (s : ℕ). holds s j) (b .around-are c lc mc))))
 
-  pub beside-links : Mutual n (out-of links-at)
-  beside-links = mutual-alike n (links h) (out-of links-at) (λ j l m. sym (links-same j l m)) (subst (λ (k : ℕ). Mutual k (links h)) (b .junctions) (links-mutual h))
+  pub beside-links : Mutual n (at links-at)
+  beside-links = mutual-alike n (links h) (at links-at) (λ j l m. sym (links-same j l m)) (subst (λ (k : ℕ). Mutual k (links h)) (b .junctions) (links-mutual h))
 
-  pub beside-mates : Mutual n (out-of mates-at)
-  beside-mates = mutual-alike n (mates h (once F)) (out-of mates-at) (λ j l m. sym (mates-same j l m)) (subst (λ (k : ℕ). Mutual k (mates h (once F))) (b .junctions) (mates-mutual h (once F)))
+  pub beside-mates : Mutual n (at mates-at)
+  beside-mates = mutual-alike n (mates h (once F)) (at mates-at) (λ j l m. sym (mates-same j l m)) (subst (λ (k : ℕ). Mutual k (mates h (once F))) (b .junctions) (mates-mutual h (once F)))
 
   -- what the columns weigh is the weight of the potential
-  weighs-same : (top s : ℕ) → levels-weigh n (out-of links-at) (out-of mates-at) (out-of potential) top s ≡ weight h (once F) (out-of potential) top s
+  weighs-same : (top s : ℕ) → levels-weigh n (at links-at) (at mates-at) (at potential) top s ≡ weight h (once F) (at potential) top s
   weighs-same top s =
-      levels-alike n (out-of links-at) (out-of mates-at) (links h) (mates h (once F)) (out-of potential) links-same mates-same top s
-      ∙ ap (λ (k : ℕ). levels-weigh k (links h) (mates h (once F)) (out-of potential) top s) n-is
-      ∙ levels-weight h (once F) (out-of potential) top s
+      levels-alike n (at links-at) (at mates-at) (links h) (mates h (once F)) (at potential) links-same mates-same top s
+      ∙ ap (λ (k : ℕ). levels-weigh k (links h) (mates h (once F)) (at potential) top s) n-is
+      ∙ levels-weight h (once F) (at potential) top s
 
-  room : (top : ℕ) → n ≤ 64 → top < 2 ^ 32 → Under n (out-of potential) top → Room (weight h (once F) (out-of potential) top)
+  room : (top : ℕ) → n ≤ 64 → top < 2 ^ 32 → Under-top n (at potential) top → Weight-room (weight h (once F) (at potential) top)
   room top small low under =
-      weights-room h (b .ranged) (b .linked) (once F) (out-of potential) (b .joining) (b .parted) top (subst (λ (k : ℕ). Under k (out-of potential) top) n-is under) (omega (arith, n-is)) low
+      weights-room h (b .ranged) (b .linked) (once F) (at potential) (b .joining) (b .parted) top (subst (λ (k : ℕ). Under-top k (at potential) top) n-is under) (omega (arith, n-is)) low
 
   pub beside-fits : {shores weights : List ℕ} → n ≤ 64 → 125 ≤ length shores → 125 ≤ length weights
-      → Fits 0 shores weights (levels-weigh n (out-of links-at) (out-of mates-at) (out-of potential) highest)
+      → Fits 0 shores weights (levels-weigh n (at links-at) (at mates-at) (at potential) highest)
   beside-fits {shores} {weights} small ls lw = record {
     listed = empty-listed (place-of shores) (place-of weights);
-    most = weight h (once F) (out-of potential) highest;
+    most = weight h (once F) (at potential) highest;
     room = room highest small (omega arith) (b .low);
     under = λ s. omega (arith, empty-weighs (place-of shores) (place-of weights) s, weighs-same highest s);
     long-shores = ls;
@@ -89,20 +89,20 @@ module _ {h : Hall} {F : ℕ → Bool} {n : ℕ} {links-at around-at potential :
   }
 
   module _ {shores weights : List ℕ} {count : ℕ} {now-shores now-weights : List ℕ} (small : n ≤ 64)
-      (added : (top : ℕ) → Under n (out-of potential) top → Added 0 shores weights (levels-weigh n (out-of links-at) (out-of mates-at) (out-of potential) top) count now-shores now-weights) where
-    weighs-now : (top : ℕ) → Under n (out-of potential) top → (s : ℕ) → weight-in count (place-of now-shores) (place-of now-weights) s ≡ weight h (once F) (out-of potential) top s
+      (added : (top : ℕ) → Under-top n (at potential) top → Added 0 shores weights (levels-weigh n (at links-at) (at mates-at) (at potential) top) count now-shores now-weights) where
+    weighs-now : (top : ℕ) → Under-top n (at potential) top → (s : ℕ) → weight-in count (place-of now-shores) (place-of now-weights) s ≡ weight h (once F) (at potential) top s
     unfolding nothing
     weighs-now top under s = omega (arith, added top under .weighs s, empty-weighs (place-of shores) (place-of weights) s, weighs-same top s)
 
-    pub beside-filled : (top : ℕ) → Under n (out-of potential) top → Filled-with (cuts h (once F) (out-of potential) top) shores weights count now-shores now-weights
+    pub beside-filled : (top : ℕ) → Under-top n (at potential) top → Filled-with (cuts h (once F) (at potential) top) shores weights count now-shores now-weights
     unfolding cuts
     beside-filled top under =
         let a = added highest (b .low) in
         let r = room highest small (omega arith) (b .low) in
         record {
           cuts-are =
-              listed-listing count (place-of now-shores) (place-of now-weights) (a .listed) (weight h (once F) (out-of potential) top) (2 ^ h .n) (weighs-now top under)
-              (λ s l. shore-lt h s (weight-tight h (b .ranged) (once F) (out-of potential) (b .joining) (b .parted) top s l .shore));
+              listed-listing count (place-of now-shores) (place-of now-weights) (a .listed) (weight h (once F) (at potential) top) (2 ^ h .n) (weighs-now top under)
+              (λ s l. shore-lt h s (weight-tight h (b .ranged) (once F) (at potential) (b .joining) (b .parted) top s l .shore));
           few = few-places (place-of now-shores) (place-of now-weights) _ r count (a .listed) (λ s. omega (arith, weighs-now highest (b .low) s));
           shores-size = a .shores-size;
           weights-size = a .weights-size;
@@ -112,17 +112,17 @@ module _ {h : Hall} {F : ℕ → Bool} {n : ℕ} {links-at around-at potential :
 
 -- the levels of the cuts that the places are filled with
 module _ {h : Hall} {F : ℕ → Bool} {n : ℕ} {links-at around-at potential : List ℕ} (b : Beside-rows h F n links-at around-at potential) {shores weights : List ℕ} {count : ℕ} {now-shores now-weights : List ℕ} where
-  pub filled-near : Filled-with (cuts h (once F) (out-of potential) highest) shores weights count now-shores now-weights → Near n (cuts-in count 0 (place-of now-shores) (place-of now-weights))
-  unfolding Under
+  pub filled-near : Filled-with (cuts h (once F) (at potential) highest) shores weights count now-shores now-weights → Near n (cuts-in count 0 (place-of now-shores) (place-of now-weights))
+  unfolding Under-top
   filled-near f =
-      let under : (j : ℕ) → 1 ≤ j → j ≤ h .n → out-of potential j ≤ highest = λ j l m. b .low j l (omega (arith, b .junctions)) in
-      let near : Near (h .n) (cuts h (once F) (out-of potential) highest) =
-      certificate-near h (once F) (out-of potential) (cuts h (once F) (out-of potential) highest) (b .ranged .some)
-      (certificate h (b .ranged) (once F) (out-of potential) (b .joining) (b .parted) highest under)
+      let under : (j : ℕ) → 1 ≤ j → j ≤ h .n → at potential j ≤ highest = λ j l m. b .low j l (omega (arith, b .junctions)) in
+      let near : Near (h .n) (cuts h (once F) (at potential) highest) =
+      certificate-near h (once F) (at potential) (cuts h (once F) (at potential) highest) (b .ranged .some)
+      (certificate h (b .ranged) (once F) (at potential) (b .joining) (b .parted) highest under)
       (λ j l m. omega (arith, under j l m)) in
       subst (λ (k : ℕ). Near k (cuts-in count 0 (place-of now-shores) (place-of now-weights))) (b .junctions)
       (subst (Near (h .n)) (sym (f .cuts-are)) near)
 
-  pub filled-levelled : (top : ℕ) {before after : List ℤ} → Filled-with (cuts h (once F) (out-of potential) top) shores weights count now-shores now-weights
-      → Levelled (cuts-in count 0 (place-of now-shores) (place-of now-weights)) n before after → Levelled (cuts h (once F) (out-of potential) top) n before after
+  pub filled-levelled : (top : ℕ) {before after : List ℤ} → Filled-with (cuts h (once F) (at potential) top) shores weights count now-shores now-weights
+      → Levelled (cuts-in count 0 (place-of now-shores) (place-of now-weights)) n before after → Levelled (cuts h (once F) (at potential) top) n before after
   filled-levelled top {before} {after} f g = subst (λ (ks : List Cut). Levelled ks n before after) (f .cuts-are) g

@@ -20,8 +20,8 @@ use Rattle.certificates.specs.Cuts.{weight, cuts}
 use Rattle.certificates.proofs.Certificate.{weight-tight, cuts-weigh, certificate}
 use Rattle.certificates.proofs.Levels.{weights-spread}
 use Rattle.certificates.proofs.Listing.{load-weigh}
-use Rattle.cuts.specs.Listed.{Room}
-use Rattle.cuts.specs.Thresholds.{Under}
+use Rattle.cuts.specs.Listed.{Weight-room}
+use Rattle.cuts.specs.Thresholds.{Under-top}
 use Rattle.cuts.proofs.Listing.{listing-length}
 
 -- some row enters each shore of a linked hall
@@ -39,10 +39,10 @@ shore-entered h linked s shore =
     (λ t. not-false-true (holds s (row h i .from))
     (λ f. clash (and-i (not (holds s (row h i .from))) (holds s (row h i .to)) (ap not f) t) (rw e at (none (i - 1) (omega arith))))))))
 
-module _ (h : Hall) (ranged : Ranged h) (linked : Linked h) (x p : ℕ → ℕ) (joins : Joining h x) (parted : Parted h x p) (top : ℕ) (under : Under (h .n) p top) where
+module _ (h : Hall) (ranged : Ranged h) (linked : Linked h) (x p : ℕ → ℕ) (joins : Joining h x) (parted : Parted h x p) (top : ℕ) (under : Under-top (h .n) p top) where
   -- a shore weighs no more than the load of a row that enters it
   weight-under : (s : ℕ) → weight h x p top s ≤ top
-  unfolding Under
+  unfolding Under-top
   weight-under s =
       by-bool (ltb 0 (weight h x p top s))
       (λ t.
@@ -61,8 +61,8 @@ module _ (h : Hall) (ranged : Ranged h) (linked : Linked h) (x p : ℕ → ℕ) 
       ))
       (λ t. omega (arith, ltb-false 0 (weight h x p top s) t))
 
-  pub weights-room : h .n ≤ 64 → top < 2 ^ 32 → Room (weight h x p top)
-  unfolding Under cuts most-cuts
+  pub weights-room : h .n ≤ 64 → top < 2 ^ 32 → Weight-room (weight h x p top)
+  unfolding Under-top cuts most-cuts
   weights-room small low = record {
     bound = 2 ^ h .n;
     low = λ s l. shore-lt h s (weight-tight h ranged x p joins parted top s l .shore);

@@ -6,14 +6,14 @@ use native.Mathlib.Omega.{arith}
 use lib.ListN.{length, set, length-set}
 use lib.Seq.{getD-set-same, getD-set-other}
 use borrow.Author.Count.{below-more}
-use Rattle.digraph.specs.Adjacency.{out-of}
+use Rattle.laws.specs.Lists.{at}
 use Rattle.cuts.specs.Listed.{place-of}
-use Rattle.cuts.specs.Columns.{Filled}
+use Rattle.cuts.specs.Columns.{Filled-to}
 
-pub filled-none : (size : ℕ) (f : ℕ → ℕ) (column : List ℕ) → length column ≡ size → Filled size f 0 column
+pub filled-none : (size : ℕ) (f : ℕ → ℕ) (column : List ℕ) → length column ≡ size → Filled-to size f 0 column
 filled-none size f column e = record { long = e; at = λ i l. absurd (omega arith) }
 
-pub filled-more : (size : ℕ) (f : ℕ → ℕ) (k : ℕ) (column : List ℕ) (v : ℕ) → k < size → v ≡ f k → Filled size f k column → Filled size f (k + 1) (set column k v)
+pub filled-more : (size : ℕ) (f : ℕ → ℕ) (k : ℕ) (column : List ℕ) (v : ℕ) → k < size → v ≡ f k → Filled-to size f k column → Filled-to size f (k + 1) (set column k v)
 filled-more size f k column v l e g = record {
   long = length-set column k v ∙ g .long;
   at = below-more (λ (i : ℕ). place-of (set column k v) i ≡ f i) k
@@ -22,5 +22,5 @@ filled-more size f k column v l e g = record {
 }
 
 -- place k stands for junction k + 1
-pub place-next : (column : List ℕ) (k : ℕ) → place-of column k ≡ out-of column (suc k)
+pub place-next : (column : List ℕ) (k : ℕ) → place-of column k ≡ at column (suc k)
 place-next column k = let e : k ≡ suc k - 1 = omega arith in ap (place-of column) e

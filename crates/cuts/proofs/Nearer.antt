@@ -5,13 +5,13 @@ use native.Mathlib.Omega.{arith}
 use lib.Dec.{eqb}
 use borrow.Author.Tests.{eqb-true, eqb-false}
 use Rattle.laws.proofs.Booleans.{by-bool}
-use Rattle.cuts.specs.Thresholds.{Next}
+use Rattle.cuts.specs.Thresholds.{Next-value}
 
 -- of the first k + 1 junctions, one is the last
 last-of {ℓ} : {C : Type ℓ} (k j : ℕ) → j ≤ k + 1 → (j ≡ suc k → C) → (j ≤ k → C) → C
 last-of k j l here below = by-bool (eqb j (suc k)) (λ e. here (eqb-true j (suc k) e)) (λ e. let ne = eqb-false j (suc k) e in below (omega arith))
 
-pub next-none : (p : ℕ → ℕ) (low : ℕ) → Next 0 p low low
+pub next-none : (p : ℕ → ℕ) (low : ℕ) → Next-value 0 p low low
 next-none p low = record {
   from-low = omega arith;
   none = λ e j l m. absurd (omega arith);
@@ -19,9 +19,9 @@ next-none p low = record {
   taken = λ h. absurd (omega arith);
 }
 
-module _ (p : ℕ → ℕ) (low k best value : ℕ) (is : value ≡ p (suc k)) (g : Next k p low best) where
+module _ (p : ℕ → ℕ) (low k best value : ℕ) (is : value ≡ p (suc k)) (g : Next-value k p low best) where
   -- the value is not over `low`
-  pub next-under : value ≤ low → Next (k + 1) p low best
+  pub next-under : value ≤ low → Next-value (k + 1) p low best
   next-under u = record {
     from-low = g .from-low;
     none = λ e j l m. last-of k j m (λ q. omega (arith, ap p q)) (λ b. g .none e j l b);
@@ -30,7 +30,7 @@ module _ (p : ℕ → ℕ) (low k best value : ℕ) (is : value ≡ p (suc k)) (
   }
 
   -- the value is over the best so far
-  pub next-over : low < best → best ≤ value → Next (k + 1) p low best
+  pub next-over : low < best → best ≤ value → Next-value (k + 1) p low best
   next-over h o = record {
     from-low = g .from-low;
     none = λ e. absurd (omega arith);
@@ -39,7 +39,7 @@ module _ (p : ℕ → ℕ) (low k best value : ℕ) (is : value ≡ p (suc k)) (
   }
 
   -- the value is the first over `low`
-  pub next-first : low < value → best ≡ low → Next (k + 1) p low value
+  pub next-first : low < value → best ≡ low → Next-value (k + 1) p low value
   next-first h e = record {
     from-low = omega arith;
     none = λ q. absurd (omega arith);
@@ -48,7 +48,7 @@ module _ (p : ℕ → ℕ) (low k best value : ℕ) (is : value ≡ p (suc k)) (
   }
 
   -- the value is less
-  pub next-less : low < value → value ≤ best → Next (k + 1) p low value
+  pub next-less : low < value → value ≤ best → Next-value (k + 1) p low value
   next-less h u = record {
     from-low = omega arith;
     none = λ q. absurd (omega arith);

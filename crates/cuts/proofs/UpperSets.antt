@@ -17,7 +17,7 @@ use Rattle.certificates.proofs.PieceSums.{over-ext, over-swap}
 use Rattle.certificates.proofs.Classes.{upper-lt, upper-holds}
 use Rattle.cuts.specs.Listed.{place-of, Listed, Fits, Adding, Added, alone, nothing}
 use Rattle.cuts.specs.Shores.{components-weigh, classes-weigh, levels-weigh}
-use Rattle.cuts.specs.Thresholds.{Next, Under}
+use Rattle.cuts.specs.Thresholds.{Next-value, Under-top}
 use Rattle.cuts.proofs.Rest.{over-all, over-none}
 use Rattle.cuts.proofs.Room.{adding-none, adding-more, added-same}
 
@@ -46,7 +46,7 @@ module _ (n : ℕ) (links mates : ℕ → ℕ) (k s : ℕ) where
 
 module _ (n : ℕ) (p : ℕ → ℕ) where
   -- from one value up to the next the upper sets are the same
-  upper-same : (low next q : ℕ) → Next n p low next → low ≤ q → q < next → upper n p (suc q) ≡ upper n p next
+  upper-same : (low next q : ℕ) → Next-value n p low next → low ≤ q → q < next → upper n p (suc q) ≡ upper n p next
   upper-same low next q g a b =
       sets-ext n (upper n p (suc q)) (upper n p next) (upper-lt n p (suc q)) (upper-lt n p next)
       (λ j l m.
@@ -63,8 +63,8 @@ module _ (n : ℕ) (p : ℕ → ℕ) where
       (λ j l m. upper-holds n p q j l m ∙ lt-leb q (p j) (over j l m) ∙ sym (none-holds j))
 
 -- a value that is taken is not over the top
-pub next-high : {n : ℕ} {p : ℕ → ℕ} {low next : ℕ} (top : ℕ) → Next n p low next → low < next → Under n p top → next ≤ top
-unfolding Under
+pub next-high : {n : ℕ} {p : ℕ → ℕ} {low next : ℕ} (top : ℕ) → Next-value n p low next → low < next → Under-top n p top → next ≤ top
+unfolding Under-top
 next-high top g l under = let w = g .taken l in omega (arith, under (w .0) (w .1) (w .2), w .3)
 
 pub upper-fits : (n : ℕ) (p : ℕ → ℕ) (next set : ℕ) → set ≡ upper n p next → set < 2 ^ n
@@ -75,7 +75,7 @@ module _ (n : ℕ) (links mates p : ℕ → ℕ) where
   at s q = classes-weigh n links mates (upper n p (suc q)) 1 s
 
   -- up to the next value
-  pub levels-next : (low next s : ℕ) → Next n p low next → levels-weigh n links mates p next s ≡ levels-weigh n links mates p low s + classes-weigh n links mates (upper n p next) (next - low) s
+  pub levels-next : (low next s : ℕ) → Next-value n p low next → levels-weigh n links mates p next s ≡ levels-weigh n links mates p low s + classes-weigh n links mates (upper n p next) (next - low) s
   unfolding levels-weigh at
   levels-next low next s g =
       let e : low + (next - low) ≡ next = omega (arith, g .from-low) in
@@ -118,7 +118,7 @@ module _ (n : ℕ) (links mates p : ℕ → ℕ) where
     unfolding levels-weigh nothing sum-below
     added-none listed = adding-none 0 shores weights nothing listed
 
-    module _ {low next filled set : ℕ} {now-shores now-weights : List ℕ} (g : Next n p low next) (is : set ≡ upper n p next)
+    module _ {low next filled set : ℕ} {now-shores now-weights : List ℕ} (g : Next-value n p low next) (is : set ≡ upper n p next)
         (added : Added 0 shores weights (levels-weigh n links mates p low) filled now-shores now-weights) where
       toward : Adding 0 shores weights (levels-weigh n links mates p next) filled now-shores now-weights (classes-weigh n links mates set (next - low))
       unfolding nothing
@@ -151,8 +151,8 @@ module _ (n : ℕ) (links mates p : ℕ → ℕ) where
           (classes-weigh n links mates set (next - low)) (classes-weigh n links mates set (next - low)) nothing (λ s. omega arith) toward more
 
     -- no value is over `low`
-    pub added-all : {low next filled : ℕ} {now-shores now-weights : List ℕ} → Next n p low next → next ≡ low → Added 0 shores weights (levels-weigh n links mates p low) filled now-shores now-weights
-        → (top : ℕ) → Under n p top → Added 0 shores weights (levels-weigh n links mates p top) filled now-shores now-weights
-    unfolding Under
+    pub added-all : {low next filled : ℕ} {now-shores now-weights : List ℕ} → Next-value n p low next → next ≡ low → Added 0 shores weights (levels-weigh n links mates p low) filled now-shores now-weights
+        → (top : ℕ) → Under-top n p top → Added 0 shores weights (levels-weigh n links mates p top) filled now-shores now-weights
+    unfolding Under-top
     added-all {low} {next} {filled} {now-shores} {now-weights} g e added top under =
         added-same 0 shores weights (levels-weigh n links mates p low) (levels-weigh n links mates p top) filled now-shores now-weights (λ s. levels-same low top s (g .none e) under) added

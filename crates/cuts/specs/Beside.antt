@@ -3,11 +3,12 @@ use mathlib.Core.Path.{_≡_}
 use mathlib.Core.Bool.{Bool, true}
 use mathlib.Core.List.{List}
 use Prim.Native.Nat.{ℕ}
+use Rattle.laws.specs.Lists.{at}
 use Rattle.hall.specs.Hall.{Hall}
 use Rattle.dicuts.specs.Shores.{Ranged, Linked, Joining, once}
 use Rattle.potentials.specs.Potential.{Parted}
-use Rattle.columns.specs.Columns.{at, Arcs, Neighbourhoods}
-use Rattle.cuts.specs.Thresholds.{Under}
+use Rattle.columns.specs.Columns.{Arcs, Neighbourhoods}
+use Rattle.cuts.specs.Thresholds.{Under-top}
 
 -- the highest potential: 256 rows at a price of 1,000,000 each
 abbrev pub highest : ℕ
@@ -22,4 +23,4 @@ pub record Beside-rows (h : Hall) (F : ℕ → Bool) (n : ℕ) (links around pot
   pub parted : Parted h (once F) (at potential)
   pub links-are : Arcs h (λ i. true) links
   pub around-are : Neighbourhoods h F around
-  pub low : Under n (at potential) highest
+  pub low : Under-top n (at potential) highest

@@ -6,6 +6,6 @@ use lib.ListN.{length}
 use Rattle.cuts.specs.Listed.{place-of}
 
 -- the first k of the column's places are those of f
-pub record Filled (size : ℕ) (f : ℕ → ℕ) (k : ℕ) (column : List ℕ) : Type 0 where
+pub record Filled-to (size : ℕ) (f : ℕ → ℕ) (k : ℕ) (column : List ℕ) : Type 0 where
   pub long : length column ≡ size
   pub at : (i : ℕ) → i < k → place-of column i ≡ f i

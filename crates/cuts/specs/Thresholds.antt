@@ -9,12 +9,12 @@ unfoldable pub mates-by : (n : ℕ) → (sets : ℕ → ℕ) → (a : ℕ) → �
 mates-by n sets a = gather n (λ b. holds (sets a) b || holds (sets b) a)
 
 -- THE NEXT VALUE over `low` that p takes at junctions 1 to n, or `low` where it takes none
-pub record Next (n : ℕ) (p : ℕ → ℕ) (low next : ℕ) : Type 0 where
+pub record Next-value (n : ℕ) (p : ℕ → ℕ) (low next : ℕ) : Type 0 where
   pub from-low : low ≤ next
   pub none : next ≡ low → (j : ℕ) → 1 ≤ j → j ≤ n → p j ≤ low
   pub least : (j : ℕ) → 1 ≤ j → j ≤ n → low < p j → next ≤ p j
   pub taken : low < next → (j : ℕ) × (1 ≤ j) × (j ≤ n) × (p j ≡ next)
 
 -- no junction of 1 to n has a potential over the top
-unfoldable pub Under : (n : ℕ) → (p : ℕ → ℕ) → (top : ℕ) → Type 0
-Under n p top = (j : ℕ) → 1 ≤ j → j ≤ n → p j ≤ top
+unfoldable pub Under-top : (n : ℕ) → (p : ℕ → ℕ) → (top : ℕ) → Type 0
+Under-top n p top = (j : ℕ) → 1 ≤ j → j ≤ n → p j ≤ top

@@ -8,12 +8,12 @@ pub mod thresholds;
 ghost use mathlib.Core.Bool.{Bool};
 ghost use Prim.Native.Nat.{ℕ, _≤_};
 ghost use lib.ListN.{length};
+ghost use Rattle.laws.specs.Lists.{at};
 ghost use Rattle.hall.specs.Hall.{Hall};
 ghost use Rattle.dicuts.specs.Shores.{once};
-ghost use Rattle.columns.specs.Columns.{at};
 ghost use Rattle.certificates.specs.Cuts.{cuts};
 ghost use Rattle.cuts.specs.Beside.{Beside-rows};
-ghost use Rattle.cuts.specs.Thresholds.{Under};
+ghost use Rattle.cuts.specs.Thresholds.{Under-top};
 ghost use Rattle.cuts.specs.Listed.{Filled-with};
 ghost use Rattle.cuts.specs.Levels.{Levelled};
 
@@ -29,7 +29,7 @@ pub fn fill<'a>(
 ) -> usize
     requires { ⌜ (n ≤ 64) × (125 ≤ length (now shores)) × (125 ≤ length (now weights)) × (n ≤ length (now levels))
         × ((h : Hall) × (F : ℕ → Bool) × Beside-rows h F n (now links) (now around) (now potential)) ⌝ }
-    ensures { λ r. ⌜ ((h : Hall) (F : ℕ → Bool) → Beside-rows h F n (now (links .entry)) (now (around .entry)) (now (potential .entry)) → (top : ℕ) → Under n (at (now (potential .entry))) top →
+    ensures { λ r. ⌜ ((h : Hall) (F : ℕ → Bool) → Beside-rows h F n (now (links .entry)) (now (around .entry)) (now (potential .entry)) → (top : ℕ) → Under-top n (at (now (potential .entry))) top →
         Filled-with (cuts h (once F) (at (now (potential .entry))) top) (now (shores .entry)) (now (weights .entry)) r (now (shores .exit)) (now (weights .exit))
         × Levelled (cuts h (once F) (at (now (potential .entry))) top) n (now (levels .entry)) (now (levels .exit))) ⌝ }
 {

@@ -4,15 +4,15 @@ ghost use mathlib.Core.Path.{_≡_};
 ghost use mathlib.Core.Bool.{Bool};
 ghost use Prim.Native.Nat.{ℕ, suc, _+_, _≤_, _<_};
 ghost use lib.ListN.{length};
+ghost use Rattle.laws.specs.Lists.{at};
 ghost use Rattle.junctions.specs.Sets.{holds, gather};
-ghost use Rattle.digraph.specs.Adjacency.{out-of};
 ghost use Rattle.certificates.specs.Pieces.{inside};
 ghost use Rattle.certificates.specs.Cuts.{upper};
-ghost use Rattle.cuts.specs.Thresholds.{mates-by, Next};
+ghost use Rattle.cuts.specs.Thresholds.{mates-by, Next-value};
 
 // The arcs that end in the set.
 pub fn within(adjacency: &[u64; 64], set: u64) -> [u64; 64]
-    ensures { λ r. ⌜ (length r ≡ 64) × ((j : ℕ) → 1 ≤ j → j ≤ 64 → out-of r j ≡ inside set (out-of (now (adjacency .entry))) j) ⌝ }
+    ensures { λ r. ⌜ (length r ≡ 64) × ((j : ℕ) → 1 ≤ j → j ≤ 64 → at r j ≡ inside set (at (now (adjacency .entry))) j) ⌝ }
 {
     let mut arcs = [0u64; 64];
     let mut k: usize = 0;
@@ -34,7 +34,7 @@ pub fn extended(set: u64, k: usize, next: bool) -> u64
 // The junctions whose potential is at least the threshold.
 pub fn upper_set(potential: &[u64; 64], n: usize, threshold: u64) -> u64
     requires { ⌜ n ≤ 64 ⌝ }
-    ensures { λ r. ⌜ r ≡ upper n (out-of (now (potential .entry))) threshold ⌝ }
+    ensures { λ r. ⌜ r ≡ upper n (at (now (potential .entry))) threshold ⌝ }
 {
     let mut set: u64 = 0;
     let mut k: usize = 0;
@@ -48,7 +48,7 @@ pub fn upper_set(potential: &[u64; 64], n: usize, threshold: u64) -> u64
 // The junctions of 1 to n whose set holds junction a: a column of bits, with no branch.
 fn holders(around: &[u64; 64], n: usize, a: usize) -> u64
     requires { ⌜ (n ≤ 64) × (1 ≤ a) × (a ≤ 64) ⌝ }
-    ensures { λ r. ⌜ r ≡ gather n (λ (b : ℕ). holds (out-of (now (around .entry)) b) a) ⌝ }
+    ensures { λ r. ⌜ r ≡ gather n (λ (b : ℕ). holds (at (now (around .entry)) b) a) ⌝ }
 {
     let place = a - 1;
     let mut set: u64 = 0;
@@ -63,7 +63,7 @@ fn holders(around: &[u64; 64], n: usize, a: usize) -> u64
 // The mates of junction a.
 pub fn mates_of(around: &[u64; 64], n: usize, a: usize) -> u64
     requires { ⌜ (n ≤ 64) × (1 ≤ a) × (a ≤ 64) ⌝ }
-    ensures { λ r. ⌜ r ≡ mates-by n (out-of (now (around .entry))) a ⌝ }
+    ensures { λ r. ⌜ r ≡ mates-by n (at (now (around .entry))) a ⌝ }
 {
     let own = Junctions::full(n).0 & around[a - 1];
     own | holders(around, n, a)
@@ -72,7 +72,7 @@ pub fn mates_of(around: &[u64; 64], n: usize, a: usize) -> u64
 // The mates of each junction.
 pub fn mates(around: &[u64; 64], n: usize) -> [u64; 64]
     requires { ⌜ n ≤ 64 ⌝ }
-    ensures { λ r. ⌜ (length r ≡ 64) × ((a : ℕ) → 1 ≤ a → a ≤ n → out-of r a ≡ mates-by n (out-of (now (around .entry))) a) ⌝ }
+    ensures { λ r. ⌜ (length r ≡ 64) × ((a : ℕ) → 1 ≤ a → a ≤ n → at r a ≡ mates-by n (at (now (around .entry))) a) ⌝ }
 {
     let mut sets = [0u64; 64];
     let mut k: usize = 0;
@@ -85,7 +85,7 @@ pub fn mates(around: &[u64; 64], n: usize) -> [u64; 64]
 
 // The better of the next value so far and one more value.
 pub fn nearer(low: u64, best: u64, value: u64) -> u64
-    ensures { λ r. ⌜ ((p : ℕ → ℕ) (k : ℕ) → value ≡ p (suc k) → Next k p low best → Next (k + 1) p low r) ⌝ }
+    ensures { λ r. ⌜ ((p : ℕ → ℕ) (k : ℕ) → value ≡ p (suc k) → Next-value k p low best → Next-value (k + 1) p low r) ⌝ }
 {
     if value <= low {
         return best;
@@ -102,7 +102,7 @@ pub fn nearer(low: u64, best: u64, value: u64) -> u64
 // The next value over `low` that the potential takes, or `low`.
 pub fn next_value(potential: &[u64; 64], n: usize, low: u64) -> u64
     requires { ⌜ n ≤ 64 ⌝ }
-    ensures { λ r. ⌜ Next n (out-of (now (potential .entry))) low r ⌝ }
+    ensures { λ r. ⌜ Next-value n (at (now (potential .entry))) low r ⌝ }
 {
     let mut best = low;
     let mut k: usize = 0;

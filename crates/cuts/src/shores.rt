@@ -3,7 +3,7 @@ use crate::list;
 use crate::sets;
 use junctions::Junctions;
 ghost use Prim.Native.Nat.{_^_, _≤_, _<_};
-ghost use Rattle.digraph.specs.Adjacency.{out-of};
+ghost use Rattle.laws.specs.Lists.{at};
 ghost use Rattle.certificates.specs.Pieces.{Mutual};
 ghost use Rattle.cuts.specs.Listed.{Fits, Added};
 ghost use Rattle.cuts.specs.Shores.{components-weigh, classes-weigh};
@@ -18,8 +18,8 @@ pub fn add_components(
     weights: &mut [u32],
     count: usize,
 ) -> usize
-    requires { ⌜ (n ≤ 64) × (0 < weight) × Mutual n (out-of (now links)) × Fits count (now shores) (now weights) (components-weigh n (out-of (now links)) class weight) ⌝ }
-    ensures { λ r. ⌜ Added count (now (shores .entry)) (now (weights .entry)) (components-weigh n (out-of (now (links .entry))) class weight) r (now (shores .exit)) (now (weights .exit)) ⌝ }
+    requires { ⌜ (n ≤ 64) × (0 < weight) × Mutual n (at (now links)) × Fits count (now shores) (now weights) (components-weigh n (at (now links)) class weight) ⌝ }
+    ensures { λ r. ⌜ Added count (now (shores .entry)) (now (weights .entry)) (components-weigh n (at (now (links .entry))) class weight) r (now (shores .exit)) (now (weights .exit)) ⌝ }
 {
     let all = Junctions::full(n).0;
     let free = all ^ (all & class);
@@ -45,8 +45,8 @@ pub fn add_classes<'a, 'b>(
     weights: &mut [u32],
     count: usize,
 ) -> usize
-    requires { ⌜ (n ≤ 64) × (0 < weight) × (set < 2 ^ n) × Mutual n (out-of (now links)) × Mutual n (out-of (now mates)) × Fits count (now shores) (now weights) (classes-weigh n (out-of (now links)) (out-of (now mates)) set weight) ⌝ }
-    ensures { λ r. ⌜ Added count (now (shores .entry)) (now (weights .entry)) (classes-weigh n (out-of (now (links .entry))) (out-of (now (mates .entry))) set weight) r (now (shores .exit)) (now (weights .exit)) ⌝ }
+    requires { ⌜ (n ≤ 64) × (0 < weight) × (set < 2 ^ n) × Mutual n (at (now links)) × Mutual n (at (now mates)) × Fits count (now shores) (now weights) (classes-weigh n (at (now links)) (at (now mates)) set weight) ⌝ }
+    ensures { λ r. ⌜ Added count (now (shores .entry)) (now (weights .entry)) (classes-weigh n (at (now (links .entry))) (at (now (mates .entry))) set weight) r (now (shores .exit)) (now (weights .exit)) ⌝ }
 {
     let inside = sets::within(mates, set);
     let mut left = set;

@@ -4,16 +4,15 @@ use crate::shores::add_classes;
 ghost use mathlib.Core.Bool.{Bool};
 ghost use Prim.Native.Nat.{ℕ, _^_, _≤_, _<_};
 ghost use lib.ListN.{length};
+ghost use Rattle.laws.specs.Lists.{at};
 ghost use Rattle.hall.specs.Hall.{Hall};
 ghost use Rattle.dicuts.specs.Shores.{once};
-ghost use Rattle.columns.specs.Columns.{at};
-ghost use Rattle.digraph.specs.Adjacency.{out-of};
 ghost use Rattle.certificates.specs.Pieces.{Mutual};
 ghost use Rattle.certificates.specs.Cuts.{cuts};
 ghost use Rattle.cuts.specs.Beside.{Beside-rows};
 ghost use Rattle.cuts.specs.Listed.{Fits, Added, Filled-with};
 ghost use Rattle.cuts.specs.Shores.{levels-weigh};
-ghost use Rattle.cuts.specs.Thresholds.{Under};
+ghost use Rattle.cuts.specs.Thresholds.{Under-top};
 
 // Adds the shores of every threshold, each with its weight. Returns how many places are filled.
 pub fn add_thresholds<'a, 'b>(
@@ -24,10 +23,10 @@ pub fn add_thresholds<'a, 'b>(
     shores: &mut [u64],
     weights: &mut [u32],
 ) -> usize
-    requires { ⌜ (n ≤ 64) × Mutual n (out-of (now links)) × Mutual n (out-of (now mates))
-        × ((top : ℕ) × (top < 2 ^ 32) × Under n (out-of (now potential)) top × Fits 0 (now shores) (now weights) (levels-weigh n (out-of (now links)) (out-of (now mates)) (out-of (now potential)) top)) ⌝ }
-    ensures { λ r. ⌜ ((top : ℕ) → Under n (out-of (now (potential .entry))) top →
-        Added 0 (now (shores .entry)) (now (weights .entry)) (levels-weigh n (out-of (now (links .entry))) (out-of (now (mates .entry))) (out-of (now (potential .entry))) top) r (now (shores .exit)) (now (weights .exit))) ⌝ }
+    requires { ⌜ (n ≤ 64) × Mutual n (at (now links)) × Mutual n (at (now mates))
+        × ((top : ℕ) × (top < 2 ^ 32) × Under-top n (at (now potential)) top × Fits 0 (now shores) (now weights) (levels-weigh n (at (now links)) (at (now mates)) (at (now potential)) top)) ⌝ }
+    ensures { λ r. ⌜ ((top : ℕ) → Under-top n (at (now (potential .entry))) top →
+        Added 0 (now (shores .entry)) (now (weights .entry)) (levels-weigh n (at (now (links .entry))) (at (now (mates .entry))) (at (now (potential .entry))) top) r (now (shores .exit)) (now (weights .exit))) ⌝ }
 {
     let mut low: u64 = 0;
     let mut filled: usize = 0;
@@ -61,7 +60,7 @@ pub fn fill<'a>(
     weights: &mut [u32],
 ) -> usize
     requires { ⌜ (n ≤ 64) × (125 ≤ length (now shores)) × (125 ≤ length (now weights)) × ((h : Hall) × (F : ℕ → Bool) × Beside-rows h F n (now links) (now around) (now potential)) ⌝ }
-    ensures { λ r. ⌜ ((h : Hall) (F : ℕ → Bool) → Beside-rows h F n (now (links .entry)) (now (around .entry)) (now (potential .entry)) → (top : ℕ) → Under n (at (now (potential .entry))) top →
+    ensures { λ r. ⌜ ((h : Hall) (F : ℕ → Bool) → Beside-rows h F n (now (links .entry)) (now (around .entry)) (now (potential .entry)) → (top : ℕ) → Under-top n (at (now (potential .entry))) top →
         Filled-with (cuts h (once F) (at (now (potential .entry))) top) (now (shores .entry)) (now (weights .entry)) r (now (shores .exit)) (now (weights .exit))) ⌝ }
 {
     let mates = sets::mates(around, n);

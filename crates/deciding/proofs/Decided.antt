@@ -13,7 +13,7 @@ use Rattle.potentials.specs.Potential.{cost}
 use Rattle.potentials.specs.Compare.{Weighs, Priced, Agree}
 use Rattle.potentials.proofs.Compare.{gap-dearer}
 use Rattle.choicelists.proofs.Leads.{leads-ext}
-use Rattle.deciding.specs.Decided.{Decided, after}
+use Rattle.deciding.specs.Decided.{Decided, rows-after}
 
 module _ (h : Hall) (c : ℕ → ℕ) where
   pub decided-none : (F : ℕ → Bool) → Decided h c F 0
@@ -37,14 +37,14 @@ module _ (h : Hall) (c : ℕ → ℕ) where
   decided-in F k before e = decided-more F k before (λ G joining cheap has lacks same. clash e lacks)
 
   -- a row with a gap is out for good: every joining set with it that agrees on the rows before costs more
-  pub decided-out : (F : ℕ → Bool) (p w : ℕ → ℕ) → Weighs h (once F) p w → (k : ℕ) → suc k ≤ count h → Priced h c p (after k) F
+  pub decided-out : (F : ℕ → Bool) (p w : ℕ → ℕ) → Weighs h (once F) p w → (k : ℕ) → suc k ≤ count h → Priced h c p (rows-after k) F
       → p (row h (suc k) .to) < p (row h (suc k) .from) + c (suc k) → Decided h c F k → Decided h c F (suc k)
-  unfolding after Agree
+  unfolding rows-after Agree
   decided-out F p w weighs k high priced gap before =
       decided-more F k before
       (λ G joining cheap has lacks same.
-      let agree : Agree h (after k) F G = λ i low most out. sym (same i low (omega (arith, leb-false (suc k) i out))) in
-      let dearer = gap-dearer h F p w weighs c (after k) priced G agree joining (suc k) (omega arith) high (le-leb (suc k) (suc k) (omega arith)) has gap in
+      let agree : Agree h (rows-after k) F G = λ i low most out. sym (same i low (omega (arith, leb-false (suc k) i out))) in
+      let dearer = gap-dearer h F p w weighs c (rows-after k) priced G agree joining (suc k) (omega arith) high (le-leb (suc k) (suc k) (omega arith)) has gap in
       omega arith)
 
   -- an exchange of later rows at the same cost leaves decided rows decided

@@ -25,22 +25,22 @@ use Rattle.order.specs.Ranked.{ranked}
 use Rattle.choicelists.specs.Listed.{listed}
 use Rattle.choicelists.proofs.Leads.{leads-ext}
 use Rattle.certificates.proofs.Weighing.{parted-weighs}
-use Rattle.deciding.specs.Decided.{Decided, after}
+use Rattle.deciding.specs.Decided.{Decided, rows-after}
 use Rattle.deciding.specs.Deciding.{opened, Deciding}
 use Rattle.deciding.proofs.Decided.{decided-none, decided-in, decided-out, decided-same}
 use Rattle.deciding.proofs.First.{decided-first}
 use Rattle.deciding.proofs.Opened.{opened-flip}
 
-after-next : (k i : ℕ) → after (suc k) i ≡ true → after k i ≡ true
-unfolding after
+after-next : (k i : ℕ) → rows-after (suc k) i ≡ true → rows-after k i ≡ true
+unfolding rows-after
 after-next k i e = le-leb (suc k) i (omega (arith, leb-true (suc (suc k)) i e))
 
-pub after-first : (k : ℕ) → after k (suc k) ≡ true
-unfolding after
+pub after-first : (k : ℕ) → rows-after k (suc k) ≡ true
+unfolding rows-after
 after-first k = le-leb (suc k) (suc k) (omega arith)
 
-pub not-after : (k i : ℕ) → i ≤ k → after k i ≡ false
-unfolding after
+pub not-after : (k i : ℕ) → i ≤ k → rows-after k i ≡ false
+unfolding rows-after
 not-after k i l = lt-leb (suc k) i (omega arith)
 
 module _ (h : Hall) (rg : Ranged h) (c : ℕ → ℕ) where
@@ -81,16 +81,16 @@ module _ (h : Hall) (rg : Ranged h) (c : ℕ → ℕ) where
         step-to (decided-out h c F p (w .0) (w .1) k high (so-far .priced) gap (so-far .decided))
 
   -- the rows after k may move
-  module _ (k : ℕ) (high : suc k ≤ count h) (m : ℕ → Bool) (movable : (i : ℕ) → 1 ≤ i → i ≤ count h → m i ≡ after k i)
+  module _ (k : ℕ) (high : suc k ≤ count h) (m : ℕ → Bool) (movable : (i : ℕ) → 1 ≤ i → i ≤ count h → m i ≡ rows-after k i)
       (p : ℕ → ℕ) (F : ℕ → Bool) (so-far : Deciding h c k p F) where
-    to-movable : (q : ℕ → ℕ) (G : ℕ → Bool) → Priced h c q (after k) G → Priced h c q m G
+    to-movable : (q : ℕ → ℕ) (G : ℕ → Bool) → Priced h c q (rows-after k) G → Priced h c q m G
     to-movable q G priced =
         record {
           under = λ i l u e. priced .under i l u (sym (movable i l u) ∙ e);
           paid = λ i l u e g. priced .paid i l u (sym (movable i l u) ∙ e) g;
         }
 
-    from-movable : (q : ℕ → ℕ) (G : ℕ → Bool) → Priced h c q m G → Priced h c q (after k) G
+    from-movable : (q : ℕ → ℕ) (G : ℕ → Bool) → Priced h c q m G → Priced h c q (rows-after k) G
     from-movable q G priced =
         record {
           under = λ i l u e. priced .under i l u (movable i l u ∙ e);
@@ -178,7 +178,7 @@ deciding-same h rg c d costs p q levels F G rows k high so-far =
           so-far .decided H joining (omega (arith, cost-g, cost-same h c d costs H))
           (leads-ext k (λ i l u. refl) (λ i l u. sym (rows i l (omega arith))) leads);
       parted = parted-same h p q levels F G rows (so-far .parted);
-      priced = priced-same h rg c d costs p q levels F G rows (after k) (after k) (λ i l u. refl) (so-far .priced);
+      priced = priced-same h rg c d costs p q levels F G rows (rows-after k) (rows-after k) (λ i l u. refl) (so-far .priced);
     }
 
 -- when all rows are decided, for ranked costs, the first choice is found

@@ -7,7 +7,7 @@ use Rattle.dicuts.specs.Shores.{once, Joining}
 use Rattle.potentials.specs.Potential.{Parted, cost}
 use Rattle.potentials.specs.Flip.{Leg, put, flipped}
 use Rattle.potentials.specs.Compare.{Priced}
-use Rattle.deciding.specs.Decided.{Decided, after}
+use Rattle.deciding.specs.Decided.{Decided, rows-after}
 
 -- the set of rows after the legs of a route, and with row i
 unfoldable pub opened : (i : ℕ) → List Leg → (F : ℕ → Bool) → ℕ → Bool
@@ -19,4 +19,4 @@ pub record Deciding (h : Hall) (c : ℕ → ℕ) (k : ℕ) (p : ℕ → ℕ) (F 
   pub least : (G : ℕ → Bool) → Joining h (once G) → cost h c F ≤ cost h c G
   pub decided : Decided h c F k
   pub parted : Parted h (once F) p
-  pub priced : Priced h c p (after k) F
+  pub priced : Priced h c p (rows-after k) F

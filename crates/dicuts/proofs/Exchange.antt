@@ -8,9 +8,9 @@ use native.Mathlib.Omega.{arith}
 use Rattle.laws.specs.Finite.{one-if}
 use Rattle.laws.proofs.Booleans.{by-bool, and-i, or-l, or-r}
 use Rattle.laws.proofs.Connectives.{one-true, one-false, one-le, one-modular, and-false-l, and-false-r, or-false-i}
-use Rattle.dicuts.specs.Crossing.{Crossed, Crossing, Count, Separated}
+use Rattle.dicuts.specs.Crossing.{Crossed, Crossing-family, Count, Separated}
 
-module _ {S : Type 0} {has : S → ℕ → Bool} {In : ℕ → Type 0} {Fam : S → Type 0} (c : Crossing has In Fam) where
+module _ {S : Type 0} {has : S → ℕ → Bool} {In : ℕ → Type 0} {Fam : S → Type 0} (c : Crossing-family has In Fam) where
   meet-yes : (X Y : S) (j : ℕ) → has X j ≡ true → has Y j ≡ true → has (c .meet X Y) j ≡ true
   meet-yes X Y j p q = c .meet-has X Y j ∙ and-i (has X j) (has Y j) p q
 

@@ -9,13 +9,13 @@ use lib.Dec.{ltb}
 use Rattle.laws.specs.Finite.{one-if}
 use Rattle.laws.proofs.Booleans.{tests, by-bool}
 use Rattle.laws.proofs.Connectives.{one-le}
-use Rattle.dicuts.specs.Crossing.{Crossing, Count, Separated, Swap, taken, added, swapped, Swappable, Ahead, Swaps, Rising}
+use Rattle.dicuts.specs.Crossing.{Crossing-family, Count, Separated, Swap, taken, added, swapped, Swappable, Apart-from, Swaps, Rising}
 use Rattle.dicuts.proofs.Exchange.{exchange-count, exchange-keeps, exchange-parts-none}
 
 -- swaps that may be made by one relation may be by another that says the same
 module _ (In : ℕ → Type 0) (p : ℕ → ℕ) (A B : ℕ → ℕ → Type 0) (to : (v u : ℕ) → A v u → B v u) (back : (v u : ℕ) → B v u → A v u) where
-  ahead-map : (a : ℕ) (ss : List Swap) → Ahead A p a ss → Ahead B p a ss
-  unfolding Ahead
+  ahead-map : (a : ℕ) (ss : List Swap) → Apart-from A p a ss → Apart-from B p a ss
+  unfolding Apart-from
   ahead-map a [] g = tt
   ahead-map a (s ∷ ss) g = (λ q. to a (s .into) (g .0 q), ahead-map a ss (g .1))
 
@@ -33,7 +33,7 @@ module _ (In : ℕ → Type 0) (p : ℕ → ℕ) (A B : ℕ → ℕ → Type 0) 
     swaps-map ss (g .2),
   )
 
-module _ {S : Type 0} {has : S → ℕ → Bool} {In : ℕ → Type 0} {Fam : S → Type 0} (c : Crossing has In Fam) (p : ℕ → ℕ) where
+module _ {S : Type 0} {has : S → ℕ → Bool} {In : ℕ → Type 0} {Fam : S → Type 0} (c : Crossing-family has In Fam) (p : ℕ → ℕ) where
   -- counts that agree on the members separate alike
   pub count-agree : (d e : S → ℕ) → ((X : S) → Fam X → e X ≡ d X) → Count c d → Count c e
   count-agree d e same n =
@@ -87,9 +87,9 @@ module _ {S : Type 0} {has : S → ℕ → Bool} {In : ℕ → Type 0} {Fam : S 
         }
 
     swapped-ahead :
-        (a : ℕ) → In a → (ts : List Swap) → Swaps In (Separated has Fam d) p ts → Ahead (Separated has Fam d) p (s .out) ts →
-        Ahead (Separated has Fam d) p a ts → Ahead (Separated has Fam (swapped has s d)) p a ts
-    unfolding Ahead Swaps
+        (a : ℕ) → In a → (ts : List Swap) → Swaps In (Separated has Fam d) p ts → Apart-from (Separated has Fam d) p (s .out) ts →
+        Apart-from (Separated has Fam d) p a ts → Apart-from (Separated has Fam (swapped has s d)) p a ts
+    unfolding Apart-from Swaps
     swapped-ahead a a-in [] g first mine = tt
     swapped-ahead a a-in (t ∷ ts) g first mine = (
       λ q.
@@ -99,8 +99,8 @@ module _ {S : Type 0} {has : S → ℕ → Bool} {In : ℕ → Type 0} {Fam : S 
     )
 
     swapped-swaps :
-        (ts : List Swap) → Swaps In (Separated has Fam d) p ts → Ahead (Separated has Fam d) p (s .out) ts → Swaps In (Separated has Fam (swapped has s d)) p ts
-    unfolding Ahead Swaps
+        (ts : List Swap) → Swaps In (Separated has Fam d) p ts → Apart-from (Separated has Fam d) p (s .out) ts → Swaps In (Separated has Fam (swapped has s d)) p ts
+    unfolding Apart-from Swaps
     swapped-swaps [] g first = tt
     swapped-swaps (t ∷ ts) g first =
         (swapped-good t (g .0) (first .0), swapped-ahead (t .out) (g .0 .out-in) ts (g .2) (first .1) (g .1), swapped-swaps ts (g .2) (first .1))

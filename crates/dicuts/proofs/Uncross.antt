@@ -16,7 +16,7 @@ use Rattle.junctions.proofs.Sets.{and-holds, or-holds}
 use Rattle.junctions.proofs.Members.{holds-some, lacks-proper}
 use Rattle.hall.specs.Hall.{Hall, row, count, enters}
 use Rattle.dicuts.specs.Shores.{Shore, cover, Joining, Sep}
-use Rattle.dicuts.specs.Crossing.{Crossed, Crossing, Count, Separated, Swap, taken, added, Swaps, Rising, Inside}
+use Rattle.dicuts.specs.Crossing.{Crossed, Crossing-family, Count, Separated, Swap, taken, added, Swaps, Rising, Inside}
 use Rattle.dicuts.specs.Parts.{Kept}
 use Rattle.dicuts.proofs.Shores.{shore-lt}
 use Rattle.dicuts.proofs.Swapping.{swaps-leave, swaps-map}
@@ -81,7 +81,7 @@ cover-modular h x s t a b =
     sym (sum-add (count h) (at s) (at t)) ∙ rows ∙ sum-add (count h) (at (bitAnd s t)) (at (bitOr s t))
 
 -- shores are a crossing family
-unfoldable pub shores-cross : (h : Hall) → Crossing holds (Inside h) (Shore h)
+unfoldable pub shores-cross : (h : Hall) → Crossing-family holds (Inside h) (Shore h)
 shores-cross h =
     record {
       meet = bitAnd;

@@ -18,7 +18,7 @@ pub record Crossed {S : Type 0} (has : S → ℕ → Bool) (In : ℕ → Type 0)
   pub right-lacks : has Y missed ≡ false
 
 -- A CROSSING FAMILY: of any two members that share a junction and both miss one, the meet and the join are members
-pub record Crossing {S : Type 0} (has : S → ℕ → Bool) (In : ℕ → Type 0) (Fam : S → Type 0) : Type 0 where
+pub record Crossing-family {S : Type 0} (has : S → ℕ → Bool) (In : ℕ → Type 0) (Fam : S → Type 0) : Type 0 where
   pub meet : S → S → S
   pub join : S → S → S
   pub meet-has : (X Y : S) (j : ℕ) → has (meet X Y) j ≡ (has X j && has Y j)
@@ -27,7 +27,7 @@ pub record Crossing {S : Type 0} (has : S → ℕ → Bool) (In : ℕ → Type 0
   pub join-in : (X Y : S) → Fam X → Fam Y → Crossed has In X Y → Fam (join X Y)
 
 -- A COUNT on a crossing family: at least 1 on each member, and modular
-pub record Count {S : Type 0} {has : S → ℕ → Bool} {In : ℕ → Type 0} {Fam : S → Type 0} (c : Crossing has In Fam) (d : S → ℕ) : Type 0 where
+pub record Count {S : Type 0} {has : S → ℕ → Bool} {In : ℕ → Type 0} {Fam : S → Type 0} (c : Crossing-family has In Fam) (d : S → ℕ) : Type 0 where
   pub least : (X : S) → Fam X → 1 ≤ d X
   pub modular : (X Y : S) → Fam X → Fam Y → Crossed has In X Y → d X + d Y ≡ d (c .meet X Y) + d (c .join X Y)
 
@@ -66,14 +66,14 @@ pub record Swappable (In : ℕ → Type 0) (Sepd : (v u : ℕ) → Type 0) (p : 
   pub close : Sepd (s .out) (s .into) → ⊥
 
 -- a is separated from where the swaps lead at its own potential
-unfoldable pub Ahead : (Sepd : (v u : ℕ) → Type 0) → (p : ℕ → ℕ) → (a : ℕ) → List Swap → Type 0
-Ahead Sepd p a [] = Unit
-Ahead Sepd p a (s ∷ ss) = (p a ≡ p (s .into) → Sepd a (s .into)) × Ahead Sepd p a ss
+unfoldable pub Apart-from : (Sepd : (v u : ℕ) → Type 0) → (p : ℕ → ℕ) → (a : ℕ) → List Swap → Type 0
+Apart-from Sepd p a [] = Unit
+Apart-from Sepd p a (s ∷ ss) = (p a ≡ p (s .into) → Sepd a (s .into)) × Apart-from Sepd p a ss
 
 -- SWAPS THAT MAY BE MADE one after another: each swappable, and separated from the later ones
 unfoldable pub Swaps : (In : ℕ → Type 0) → (Sepd : (v u : ℕ) → Type 0) → (p : ℕ → ℕ) → List Swap → Type 0
 Swaps In Sepd p [] = Unit
-Swaps In Sepd p (s ∷ ss) = Swappable In Sepd p s × Ahead Sepd p (s .out) ss × Swaps In Sepd p ss
+Swaps In Sepd p (s ∷ ss) = Swappable In Sepd p s × Apart-from Sepd p (s .out) ss × Swaps In Sepd p ss
 
 -- a potential rises only where junctions are separated
 unfoldable pub Rising : (In : ℕ → Type 0) → (Sepd : (v u : ℕ) → Type 0) → (p : ℕ → ℕ) → Type 0

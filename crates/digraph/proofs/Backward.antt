@@ -7,7 +7,7 @@ use lib.Dec.{eqb, ltb}
 use borrow.Author.Tests.{eq-eqb, ne-eqb, eqb-true, ltb-true, ltb-false}
 use Rattle.laws.proofs.Booleans.{by-bool, clash, and-l, and-r, and-i}
 use Rattle.junctions.specs.Sets.{holds}
-use Rattle.digraph.specs.Turns.{Ahead}
+use Rattle.digraph.specs.Turns.{Before-from}
 use Rattle.digraph.specs.Layers.{Before, before-test}
 
 module _ (out dist : ℕ → ℕ) (y x : ℕ) where
@@ -37,7 +37,7 @@ module _ (out dist : ℕ → ℕ) (y x : ℕ) where
   unfolding before-test
   before-passes n b = and-i (eqb (dist x + 1) (dist y)) (holds (out x) y) (eq-eqb (dist x + 1) (dist y) (omega (arith, b .closer))) (b .arc)
 
-pub ahead-next : (n : ℕ) (out dist : ℕ → ℕ) (y x : ℕ) → before-test out dist y x ≡ false → Ahead n out dist y x → Ahead n out dist y (x + 1)
+pub ahead-next : (n : ℕ) (out dist : ℕ → ℕ) (y x : ℕ) → before-test out dist y x ≡ false → Before-from n out dist y x → Before-from n out dist y (x + 1)
 ahead-next n out dist y x f a = record {
   at = a .at;
   there = a .there;

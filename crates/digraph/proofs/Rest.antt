@@ -10,13 +10,14 @@ use lib.Dec.{eqb}
 use lib.ListN.{getD, length, set}
 use lib.Seq.{getD-set-same, getD-set-other}
 use borrow.Author.Tests.{eqb-true, eqb-false}
+use Rattle.laws.specs.Lists.{at}
 use Rattle.laws.proofs.Booleans.{by-bool, cond-true, cond-false}
 use Rattle.junctions.proofs.Sets.{or-holds, none-holds, lowest-is}
 use Rattle.junctions.proofs.Words.{clear-holds}
 use Rattle.junctions.specs.Sets.{holds}
 use Rattle.digraph.specs.Closure.{arc-from}
 use Rattle.digraph.specs.Turns.{Spreading, Marking}
-use Rattle.digraph.specs.Layers.{distance-of, Marked}
+use Rattle.digraph.specs.Layers.{Marked}
 use Rattle.digraph.proofs.Layers.{arc-from-split, arc-from-none}
 
 pub spread-start : (out : ℕ → ℕ) (from : ℕ) → Spreading out from 0 from
@@ -41,7 +42,7 @@ spread-step out from found rest more p h e s y =
 pub mark-end : (before now : List ℕ) (all rest d : ℕ) → length now ≡ 64 → rest ≡ 0 → Marking before now all rest d → Marked before now all d
 mark-end before now all rest d n e s = record {
   size = n;
-  entry = λ j l m. sym (cond-false (holds rest j) d (distance-of now j) (ap (λ (r : ℕ). holds r j) e ∙ none-holds j)) ∙ s j l m;
+  entry = λ j l m. sym (cond-false (holds rest j) d (at now j) (ap (λ (r : ℕ). holds r j) e ∙ none-holds j)) ∙ s j l m;
 }
 
 pub mark-step : (before now : List ℕ) (all rest d : ℕ) → length now ≡ 64 → 0 < rest → rest < 2 ^ 64
@@ -49,20 +50,20 @@ pub mark-step : (before now : List ℕ) (all rest d : ℕ) → length now ≡ 64
 mark-step before now all rest d n p h s j l m = by-bool (eqb j (trailingZeros 64 rest + 1)) here elsewhere ∙ s j l m
   where
     here : eqb j (trailingZeros 64 rest + 1) ≡ true
-        → cond (holds (bitAnd rest (rest - 1)) j) d (distance-of (set now (trailingZeros 64 rest) d) j) ≡ cond (holds rest j) d (distance-of now j)
+        → cond (holds (bitAnd rest (rest - 1)) j) d (at (set now (trailingZeros 64 rest) d) j) ≡ cond (holds rest j) d (at now j)
     here e =
         let low = lowest-is rest p h in
         let is : j ≡ trailingZeros 64 rest + 1 = eqb-true j (trailingZeros 64 rest + 1) e in
         let place : j - 1 ≡ trailingZeros 64 rest = omega (arith, is) in
         let gone : holds (bitAnd rest (rest - 1)) j ≡ false =
         clear-holds rest j p h l ∙ ap (λ (b : Bool). holds rest j && not b) e ∙ and-false (holds rest j) in
-        cond-false (holds (bitAnd rest (rest - 1)) j) d (distance-of (set now (trailingZeros 64 rest) d) j) gone
+        cond-false (holds (bitAnd rest (rest - 1)) j) d (at (set now (trailingZeros 64 rest) d) j) gone
         ∙ ap (λ (k : ℕ). getD (set now (trailingZeros 64 rest) d) k 0) place
         ∙ getD-set-same now (trailingZeros 64 rest) d 0 (omega (arith, n, low .to-last))
-        ∙ sym (cond-true (holds rest j) d (distance-of now j) (ap (holds rest) is ∙ low .in-it))
+        ∙ sym (cond-true (holds rest j) d (at now j) (ap (holds rest) is ∙ low .in-it))
 
     elsewhere : eqb j (trailingZeros 64 rest + 1) ≡ false
-        → cond (holds (bitAnd rest (rest - 1)) j) d (distance-of (set now (trailingZeros 64 rest) d) j) ≡ cond (holds rest j) d (distance-of now j)
+        → cond (holds (bitAnd rest (rest - 1)) j) d (at (set now (trailingZeros 64 rest) d) j) ≡ cond (holds rest j) d (at now j)
     elsewhere e =
         let stays : holds (bitAnd rest (rest - 1)) j ≡ holds rest j =
         clear-holds rest j p h l ∙ ap (λ (b : Bool). holds rest j && not b) e ∙ and-true (holds rest j) in

@@ -2,19 +2,16 @@
 use mathlib.Core.Path.{_≡_}
 use mathlib.Core.Bool.{Bool, true, _&&_, cond}
 use mathlib.Core.List.{List}
-use Prim.Native.Nat.{ℕ, suc, _+_, _-_, _≤_, _<_}
+use Prim.Native.Nat.{ℕ, suc, _+_, _≤_, _<_}
 use lib.Dec.{eqb}
-use lib.ListN.{getD, length}
+use lib.ListN.{length}
+use Rattle.laws.specs.Lists.{at}
 use Rattle.junctions.specs.Sets.{holds}
-
--- the distance of junction j, from a list that has it at place j - 1
-abbrev pub distance-of : List ℕ → ℕ → ℕ
-distance-of distances j = getD distances (j - 1) 0
 
 -- the list `after` has d at the set's junctions, of 64, and is else as before
 pub record Marked (before after : List ℕ) (set d : ℕ) : Type 0 where
   pub size : length after ≡ 64
-  pub entry : (j : ℕ) → 1 ≤ j → j ≤ 64 → distance-of after j ≡ cond (holds set j) d (distance-of before j)
+  pub entry : (j : ℕ) → 1 ≤ j → j ≤ 64 → at after j ≡ cond (holds set j) d (at before j)
 
 -- after d layers, of which the last is not yet marked: `fewest` are the true distances, `dist` those marked so far
 pub record Layered (n : ℕ) (fewest dist : ℕ → ℕ) (layer seen d : ℕ) : Type 0 where

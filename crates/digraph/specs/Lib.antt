@@ -1,7 +1,6 @@
 pub mod Reach
 pub mod Paths
 pub mod Closure
-pub mod Adjacency
 pub mod Search
 pub mod Distances
 pub mod Layers

@@ -4,10 +4,11 @@ use mathlib.Core.Bool.{_||_, cond}
 use mathlib.Core.List.{List}
 use Prim.Native.Nat.{ℕ, _^_, _≤_, _<_}
 use lib.ListN.{length}
+use Rattle.laws.specs.Lists.{at}
 use Rattle.junctions.specs.Sets.{holds}
 use Rattle.digraph.specs.Closure.{arc-from}
 use Rattle.digraph.specs.Distances.{distances}
-use Rattle.digraph.specs.Layers.{distance-of, Layered, Before}
+use Rattle.digraph.specs.Layers.{Layered, Before}
 
 -- what is found, with what arcs from the rest lead to, is what arcs from the whole set lead to
 abbrev pub Spreading : (out : ℕ → ℕ) → (from found rest : ℕ) → Type 0
@@ -15,14 +16,14 @@ Spreading out from found rest = (y : ℕ) → (holds found y || arc-from 64 out 
 
 -- once the rest is marked too, all of the set is
 abbrev pub Marking : (before now : List ℕ) → (all rest d : ℕ) → Type 0
-Marking before now all rest d = (j : ℕ) → 1 ≤ j → j ≤ 64 → cond (holds rest j) d (distance-of now j) ≡ cond (holds all j) d (distance-of before j)
+Marking before now all rest d = (j : ℕ) → 1 ≤ j → j ≤ 64 → cond (holds rest j) d (at now j) ≡ cond (holds all j) d (at before j)
 
 -- d layers are marked in the list
 abbrev pub Turn : (out : ℕ → ℕ) → (start : ℕ) → (dist : List ℕ) → (layer seen d : ℕ) → Type 0
-Turn out start dist layer seen d = (layer < 2 ^ 64) × (length dist ≡ 64) × Layered 64 (distances 64 out start) (distance-of dist) layer seen d
+Turn out start dist layer seen d = (layer < 2 ^ 64) × (length dist ≡ 64) × Layered 64 (distances 64 out start) (at dist) layer seen d
 
 -- a junction one arc before y is x or a later one
-pub record Ahead (n : ℕ) (out dist : ℕ → ℕ) (y x : ℕ) : Type 0 where
+pub record Before-from (n : ℕ) (out dist : ℕ → ℕ) (y x : ℕ) : Type 0 where
   pub at : ℕ
   pub there : Before n out dist y at
   pub later : x ≤ at

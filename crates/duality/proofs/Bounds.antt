@@ -9,7 +9,7 @@ use lib.ListN.{length, getD}
 use Rattle.hall.specs.Hall.{Hall, row, count, enters, is-choice, entering, member}
 use Rattle.hall.specs.Plan.{Cut, cuts-good, load, weight-sum}
 use Rattle.dicuts.proofs.Choices.{over}
-use Rattle.duality.specs.Weighted.{weight-met, Meeting, Carried}
+use Rattle.duality.specs.Weighted.{weight-met, Meets-all, Carried}
 use Rattle.duality.proofs.Over.{over-add, over-zero, over-entering, over-le, over-same}
 use Rattle.duality.proofs.Cuts.{good-cut, good-weight, good-rest}
 
@@ -29,16 +29,16 @@ just-once w zero l h le = absurd (omega arith)
 just-once w (suc zero) l h le = refl
 just-once w (suc (suc e)) l h le = let two : 2 ≤ suc (suc e) = omega arith in absurd (omega (arith, mul-le-mul-left w two))
 
-module _ (h : Hall) (d : List ℕ) (meeting : Meeting h d) where
+module _ (h : Hall) (d : List ℕ) (meeting : Meets-all h d) where
   pub weights-met : (a : ℕ) (ks : List Cut) → cuts-good h a ks ≡ true → weight-sum ks ≤ weight-met h ks d
-  unfolding weight-sum weight-met Meeting
+  unfolding weight-sum weight-met Meets-all
   weights-met a [] good = omega arith
   weights-met a (k ∷ ks) good =
       omega (arith, at-least-once (k .weight) (entering h (k .shore) d) (meeting (k .shore) (good-cut h a k ks good)), weights-met (suc (k .shore)) ks (good-rest h a k ks good))
 
   met-once : (a : ℕ) (ks : List Cut) → cuts-good h a ks ≡ true → weight-met h ks d ≡ weight-sum ks
       → (j : ℕ) (none : Cut) → j < length ks → entering h (getD ks j none .shore) d ≡ 1
-  unfolding weight-sum weight-met Meeting
+  unfolding weight-sum weight-met Meets-all
   met-once a [] good same j none l = absurd (omega arith)
   met-once a (k ∷ ks) good same zero none l =
       let met = meeting (k .shore) (good-cut h a k ks good) in

@@ -1,13 +1,8 @@
 -- The statements of specs/Promise.antt, proved. Assumes nothing.
-use mathlib.Core.Path.{_≡_, refl, ap, _∙_, sym}
-use mathlib.Core.Bool.{Bool, _||_}
-use mathlib.Core.List.{List, [], _∷_}
-use Prim.Native.Nat.{ℕ}
-use lib.Dec.{eqb}
-use Rattle.hall.specs.Hall.{count, member}
+use Rattle.hall.specs.Hall.{count}
 use Rattle.hall.specs.File.{hall-in}
 use Rattle.joining.proofs.Accepted.{accepted-ranged}
-use Rattle.duality.specs.Promise.{Cuts-show, in-choice, Loads-tight, Cuts-once, Levels-differ}
+use Rattle.duality.specs.Promise.{Cuts-show, Loads-tight, Cuts-once, Levels-differ}
 use Rattle.duality.proofs.Beside.{beside-least, beside-loads, beside-once, beside-rises}
 use Rattle.duality.proofs.Meeting.{joins-meeting}
 
@@ -16,16 +11,10 @@ unfolding Cuts-show
 cuts-show bs c d ks acc beside choice joining =
     beside-least (hall-in bs) c ks beside d choice (joins-meeting (hall-in bs) (accepted-ranged bs acc) d choice joining)
 
--- two names for one test
-in-member : (i : ℕ) (c : List ℕ) → in-choice i c ≡ member i c
-unfolding in-choice member
-in-member i [] = refl
-in-member i (x ∷ xs) = ap (λ (b : Bool). eqb x i || b) (in-member i xs)
-
 pub loads-tight : Loads-tight
 unfolding Loads-tight
 loads-tight bs c ks i acc first beside e =
-    beside-loads (hall-in bs) c ks beside (first .choice) (joins-meeting (hall-in bs) (accepted-ranged bs acc) c (first .choice) (first .joining)) i (sym (in-member i c) ∙ e)
+    beside-loads (hall-in bs) c ks beside (first .choice) (joins-meeting (hall-in bs) (accepted-ranged bs acc) c (first .choice) (first .joining)) i e
 
 pub cuts-once : Cuts-once
 unfolding Cuts-once

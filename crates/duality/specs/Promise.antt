@@ -1,11 +1,10 @@
 -- What is promised of the cuts beside a choice: the part of the third demand that they show. Each statement is a type; proofs/Promise.antt proves it. Assumes nothing.
 use mathlib.Core.Path.{_≡_}
-use mathlib.Core.Bool.{Bool, true, false, _||_}
-use mathlib.Core.List.{List, [], _∷_}
+use mathlib.Core.Bool.{true}
+use mathlib.Core.List.{List}
 use Prim.Native.Nat.{ℕ, _+_, _≤_, _<_}
-use lib.Dec.{eqb}
 use lib.ListN.{length, getD}
-use Rattle.hall.specs.Hall.{is-choice, joins, entering, row}
+use Rattle.hall.specs.Hall.{is-choice, joins, entering, row, member}
 use Rattle.hall.specs.File.{hall-in}
 use Rattle.hall.specs.Plan.{First, total, Cut, Beside, load, level-sum}
 use Rattle.joining.specs.Promise.{accepted}
@@ -16,16 +15,11 @@ Cuts-show =
     (bs c d : List ℕ) (ks : List Cut) → accepted bs ≡ true → Beside (hall-in bs) c ks → is-choice (hall-in bs) d ≡ true →
     joins (hall-in bs) d ≡ true → total (hall-in bs) c ≤ total (hall-in bs) d
 
--- the choice has row i
-unfoldable pub in-choice : (i : ℕ) → List ℕ → Bool
-in-choice i [] = false
-in-choice i (x ∷ xs) = eqb x i || in-choice i xs
-
 -- each chosen row has load equal to its price
 unfoldable pub Loads-tight : Type 0
 Loads-tight =
     (bs c : List ℕ) (ks : List Cut) (i : ℕ) → accepted bs ≡ true → First (hall-in bs) c → Beside (hall-in bs) c ks →
-    in-choice i c ≡ true → load ks (row (hall-in bs) i) ≡ row (hall-in bs) i .price
+    member i c ≡ true → load ks (row (hall-in bs) i) ≡ row (hall-in bs) i .price
 
 -- each listed cut contains just one chosen row
 unfoldable pub Cuts-once : Type 0

@@ -12,8 +12,8 @@ weight-met h [] d = 0
 weight-met h (k ∷ ks) d = k .weight * entering h (k .shore) d + weight-met h ks d
 
 -- the list meets every directed cut
-unfoldable pub Meeting : Hall → List ℕ → Type 0
-Meeting h d = (s : ℕ) → is-cut h s ≡ true → 1 ≤ entering h s d
+unfoldable pub Meets-all : Hall → List ℕ → Type 0
+Meets-all h d = (s : ℕ) → is-cut h s ≡ true → 1 ≤ entering h s d
 
 -- the load of every row is within its cost
 unfoldable pub Carried : Hall → (cost : ℕ → ℕ) → List Cut → Type 0

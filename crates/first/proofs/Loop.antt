@@ -9,6 +9,7 @@ use lib.Dec.{eqb, leb}
 use lib.ListN.{length, set, replicate, getD-replicate}
 use lib.Seq.{getD-set-same, getD-set-other}
 use borrow.Author.Tests.{eqb-true, eqb-false, le-leb, leb-true}
+use Rattle.laws.specs.Lists.{at}
 use Rattle.laws.proofs.Booleans.{tests, by-bool, bool-ext}
 use Rattle.hall.specs.Hall.{Hall, count}
 use Rattle.hall.specs.Plan.{First}
@@ -16,15 +17,15 @@ use Rattle.dicuts.specs.Shores.{Ranged}
 use Rattle.potentials.specs.Repair.{Repaired}
 use Rattle.order.specs.Ranked.{ranked}
 use Rattle.choicelists.specs.Listed.{listed}
-use Rattle.deciding.specs.Decided.{after}
+use Rattle.deciding.specs.Decided.{rows-after}
 use Rattle.deciding.specs.Deciding.{Deciding}
 use Rattle.deciding.proofs.Deciding.{not-after, deciding-start, deciding-same, deciding-end}
-use Rattle.columns.specs.Columns.{at, Columns}
+use Rattle.columns.specs.Columns.{Columns}
 use Rattle.first.specs.Standing.{Movable}
 
 -- rows other than the next one move after k + 1 rows as after k
-past-next : (k i : ℕ) → (i ≡ suc k → ⊥) → after k i ≡ after (suc k) i
-unfolding after
+past-next : (k i : ℕ) → (i ≡ suc k → ⊥) → rows-after k i ≡ rows-after (suc k) i
+unfolding rows-after
 past-next k i other =
     bool-ext (leb (suc k) i) (leb (suc (suc k)) i)
     (λ e.
@@ -34,7 +35,7 @@ past-next k i other =
 
 -- at the start all rows may move
 pub movable-start : Movable 0 (replicate 256 true)
-unfolding after
+unfolding rows-after
 movable-start i l u = getD-replicate 256 (i - 1) true false (omega arith) ∙ sym (le-leb 1 i l)
 
 -- once its row is decided, a flag is taken out

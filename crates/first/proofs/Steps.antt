@@ -8,11 +8,11 @@ use native.Mathlib.Omega.{arith}
 use lib.Dec.{ltb}
 use lib.ListN.{length, getD, List·getD-eq-default}
 use borrow.Author.Tests.{ltb-true, ltb-false}
+use Rattle.laws.specs.Lists.{at}
 use Rattle.laws.proofs.Booleans.{by-bool, or-cases, or-false-r}
 use Rattle.junctions.specs.Sets.{holds}
 use Rattle.junctions.proofs.Bits.{one-shl}
 use Rattle.junctions.proofs.Single.{one-lt}
-use Rattle.digraph.specs.Adjacency.{out-of}
 use Rattle.digraph.specs.Paths.{Distances}
 use Rattle.digraph.specs.Reach.{Reach}
 use Rattle.digraph.proofs.Closure.{start-reached, reach-narrow}
@@ -23,10 +23,10 @@ use Rattle.potentials.specs.Flip.{Leg, Route, put, flipped}
 use Rattle.potentials.specs.ZeroGraph.{zero-arcs, raised}
 use Rattle.potentials.proofs.Arcs.{zero-arcs-lt}
 use Rattle.potentials.proofs.Raise.{raised-most}
-use Rattle.deciding.specs.Decided.{after}
+use Rattle.deciding.specs.Decided.{rows-after}
 use Rattle.deciding.specs.Deciding.{opened, Deciding}
 use Rattle.deciding.proofs.Deciding.{deciding-in, deciding-out, deciding-raise, deciding-flip, deciding-same}
-use Rattle.columns.specs.Columns.{at, flagged, Columns}
+use Rattle.columns.specs.Columns.{flagged, Columns}
 use Rattle.columns.proofs.Places.{place-tail, place-head}
 use Rattle.zerograph.specs.Zero.{Zero-graph}
 use Rattle.zerograph.proofs.Rows.{cost-here, tail-level, head-level}
@@ -89,11 +89,11 @@ module _ (h : Hall) (rg : Ranged h) (n m : ℕ) (ts hs : List ℕ) (few : n ≤ 
       (or-cases (getD chosen k false) (ltb (getD potential b 0) (getD potential a 0 + getD costs k 0))
       (turned-round (getD chosen k false || ltb (getD potential b 0) (getD potential a 0 + getD costs k 0)) false e))
 
-  moves : (i : ℕ) → 1 ≤ i → i ≤ count h → flagged movable i ≡ after k i
+  moves : (i : ℕ) → 1 ≤ i → i ≤ count h → flagged movable i ≡ rows-after k i
   moves i l u = later i l (omega (arith, cols .rows))
 
   module _ (sets : List ℕ) (graph : Zero-graph h (flagged movable) (at costs) (at potential) (flagged chosen) sets)
-      (r : ℕ) (reach : Reach 64 (out-of sets) ((1 * 2 ^ a) % 2 ^ 64) r) where
+      (r : ℕ) (reach : Reach 64 (at sets) ((1 * 2 ^ a) % 2 ^ 64) r) where
     abbrev zero : ℕ → ℕ
     zero = zero-arcs h (flagged movable) (at costs) (at potential) (flagged chosen)
 
@@ -104,11 +104,11 @@ module _ (h : Hall) (rg : Ranged h) (n m : ℕ) (ts hs : List ℕ) (few : n ≤ 
         let u = rg .from-high (suc k) (omega arith) row-high in
         let small : h .n ≤ 64 = omega (arith, cols .junctions) in
         let place : row h (suc k) .from - 1 ≡ a = omega (arith, from-is) in
-        let start : Reach 64 (out-of sets) (2 ^ (row h (suc k) .from - 1)) r = rw place (rw (one-shl a (omega (arith, from-is))) at reach) in
-        let inside : (j : ℕ) → 1 ≤ j → j ≤ h .n → out-of sets j < 2 ^ h .n =
+        let start : Reach 64 (at sets) (2 ^ (row h (suc k) .from - 1)) r = rw place (rw (one-shl a (omega (arith, from-is))) at reach) in
+        let inside : (j : ℕ) → 1 ≤ j → j ≤ h .n → at sets j < 2 ^ h .n =
         λ j lj uj. subst (λ (x : ℕ). x < 2 ^ h .n) (sym (graph .inside j lj uj)) (zero-arcs-lt h (flagged movable) (at costs) (at potential) (flagged chosen) j) in
-        reach-same (h .n) (out-of sets) zero (graph .inside) (2 ^ (row h (suc k) .from - 1)) r
-        (reach-narrow (h .n) (out-of sets) (2 ^ (row h (suc k) .from - 1)) r small (one-lt (h .n) (row h (suc k) .from) l u) inside start)
+        reach-same (h .n) (at sets) zero (graph .inside) (2 ^ (row h (suc k) .from - 1)) r
+        (reach-narrow (h .n) (at sets) (2 ^ (row h (suc k) .from - 1)) r small (one-lt (h .n) (row h (suc k) .from) l u) inside start)
 
     -- where no route leads from the row's tail to its head, the row is out after a raise on what its tail reaches
     pub raised-out :
@@ -125,7 +125,7 @@ module _ (h : Hall) (rg : Ranged h) (n m : ℕ) (ts hs : List ℕ) (few : n ≤ 
   -- where a route of fewest arcs leads from the row's tail to its head, the row is in after its flip
   pub flipped-in :
       (sets : List ℕ) → Zero-graph h (flagged movable) (at costs) (at potential) (flagged chosen) sets → (dist : ℕ → ℕ) →
-      Distances 64 (out-of sets) (suc a) dist → getD potential a 0 + getD costs k 0 ≤ getD potential b 0 → (ls : List Leg) →
+      Distances 64 (at sets) (suc a) dist → getD potential a 0 + getD costs k 0 ≤ getD potential b 0 → (ls : List Leg) →
       Route h (flagged movable) (at costs) (at potential) (flagged chosen) dist (suc a) ls (suc b) →
       (flags : List Bool) → ((i : ℕ) → 1 ≤ i → flagged flags i ≡ put (suc k) true (flipped ls (flagged chosen)) i) →
       Deciding h (at costs) (suc k) (at potential) (flagged flags)

@@ -9,13 +9,14 @@ use zerograph::zero_graph;
 ghost use mathlib.Core.Path.{_≡_};
 ghost use Prim.Native.Nat.{ℕ, suc, _+_, _^_, _≤_, _<_};
 ghost use lib.ListN.{length, getD};
+ghost use Rattle.laws.specs.Lists.{at};
 ghost use Rattle.hall.specs.Hall.{Hall};
 ghost use Rattle.hall.specs.Plan.{First};
 ghost use Rattle.dicuts.specs.Shores.{Ranged};
 ghost use Rattle.potentials.specs.Repair.{Repaired};
 ghost use Rattle.order.specs.Ranked.{ranked};
 ghost use Rattle.choicelists.specs.Listed.{listed};
-ghost use Rattle.columns.specs.Columns.{at, flagged, Ends, Columns, Neighbourhoods};
+ghost use Rattle.columns.specs.Columns.{flagged, Ends, Columns, Neighbourhoods};
 ghost use Rattle.zerograph.specs.Low.{Low};
 ghost use Rattle.first.specs.Standing.{Movable, Standing};
 

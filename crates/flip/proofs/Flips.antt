@@ -8,13 +8,14 @@ use lib.Dec.{eqb, leb}
 use lib.ListN.{length, set}
 use lib.Seq.{getD-set-same, getD-set-other}
 use borrow.Author.Tests.{eqb-true, eqb-false, leb-true, leb-false}
+use Rattle.laws.specs.Lists.{at}
 use Rattle.laws.specs.First.{first-below}
 use Rattle.laws.proofs.Booleans.{by-bool, clash}
 use Rattle.laws.proofs.First.{first-passes, first-least}
 use Rattle.junctions.specs.Sets.{holds}
 use Rattle.junctions.proofs.Sets.{none-holds}
 use Rattle.hall.specs.Hall.{Hall, count}
-use Rattle.columns.specs.Columns.{at, flagged}
+use Rattle.columns.specs.Columns.{flagged}
 use Rattle.potentials.specs.ZeroGraph.{Opens, Closes, opens, closes, zero-arcs}
 use Rattle.potentials.specs.Flip.{Leg, by-open, by-close, by-swap, end-of, Takes, Route, put, after, flipped}
 use Rattle.potentials.proofs.Arcs.{opens-true, true-opens, closes-true, true-closes, arc-cases}

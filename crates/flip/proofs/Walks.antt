@@ -4,13 +4,13 @@ use mathlib.Core.Bool.{Bool, true, false}
 use mathlib.Core.List.{List}
 use Prim.Native.Nat.{ℕ, zero, suc, _+_, _≤_}
 use native.Mathlib.Omega.{arith}
+use Rattle.laws.specs.Lists.{at}
 use Rattle.junctions.specs.Sets.{holds}
-use Rattle.digraph.specs.Adjacency.{out-of}
 use Rattle.digraph.specs.Paths.{Distances}
 use Rattle.hall.specs.Hall.{Hall, row}
 use Rattle.dicuts.specs.Shores.{once, Joining}
 use Rattle.joining.proofs.Joining.{joining-mono}
-use Rattle.columns.specs.Columns.{at, flagged}
+use Rattle.columns.specs.Columns.{flagged}
 use Rattle.potentials.specs.Potential.{Parted}
 use Rattle.potentials.specs.ZeroGraph.{zero-arcs}
 use Rattle.potentials.specs.Flip.{Leg, Turns, put, after, flipped, Flip}
@@ -29,7 +29,7 @@ after-turning false i w F = refl
 -- no arc of the zero graph skips a distance
 pub graph-ahead :
     (h : Hall) (m : ℕ → Bool) (c p : ℕ → ℕ) (F : ℕ → Bool) (sets : List ℕ) (start : ℕ) (dist : ℕ → ℕ) → h .n ≤ 64 → Zero-graph h m c p F sets →
-    Distances 64 (out-of sets) start dist → (x y : ℕ) → 1 ≤ x → x ≤ h .n → 1 ≤ y → y ≤ h .n → holds (zero-arcs h m c p F x) y ≡ true → dist y ≤ suc (dist x)
+    Distances 64 (at sets) start dist → (x y : ℕ) → 1 ≤ x → x ≤ h .n → 1 ≤ y → y ≤ h .n → holds (zero-arcs h m c p F x) y ≡ true → dist y ≤ suc (dist x)
 graph-ahead h m c p F sets start dist small graph d x y lx kx ly ky arc =
     d .ahead x y lx (omega arith) ly (omega arith) (ap (λ (s : ℕ). holds s y) (graph .inside x lx kx) ∙ arc)
 
@@ -67,7 +67,7 @@ module _ (h : Hall) (movable chosen : List Bool) (costs potential : List ℕ) wh
 
   pub walked-flip :
       (sets : List ℕ) (start target : ℕ) (dist : ℕ → ℕ) (i : ℕ) (b : Bool) (result : List Bool) → h .n ≤ 64 → Zero-graph h m c p F sets →
-      Distances 64 (out-of sets) start dist → 1 ≤ start → start ≤ h .n → Joining h (once F) → Parted h (once F) p → 1 ≤ i →
+      Distances 64 (at sets) start dist → 1 ≤ start → start ≤ h .n → Joining h (once F) → Parted h (once F) p → 1 ≤ i →
       Turns h m c p F target (turning b i start) start → Walked h m c p F dist start target i b (flagged result) →
       Flip h m c p F (flagged result) × (flagged result i ≡ b)
   walked-flip sets start target dist i b result small graph d low high joining parted some turns walked =

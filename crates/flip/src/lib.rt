@@ -5,20 +5,19 @@ use zerograph::no_gap;
 ghost use mathlib.Core.Path.{_≡_};
 ghost use Prim.Native.Nat.{ℕ, suc, _≤_, _<_};
 ghost use lib.ListN.{length};
+ghost use Rattle.laws.specs.Lists.{at};
 ghost use Rattle.laws.specs.First.{first-below};
-ghost use Rattle.digraph.specs.Adjacency.{out-of};
-ghost use Rattle.digraph.specs.Layers.{distance-of};
 ghost use Rattle.digraph.specs.Paths.{Distances};
 ghost use Rattle.hall.specs.Hall.{Hall};
 ghost use Rattle.potentials.specs.ZeroGraph.{opens, closes};
-ghost use Rattle.columns.specs.Columns.{at, flagged, Ends, Columns};
+ghost use Rattle.columns.specs.Columns.{flagged, Ends, Columns};
 ghost use Rattle.zerograph.specs.Low.{Low};
 ghost use Rattle.flip.specs.Flips.{Made, Walked};
 ghost use Rattle.zerograph.specs.Zero.{Zero-graph};
 
-// The place of the first row that may be opened on the way from x to y, or the count where there is none.
+// The place of the first row that may be opened on the way from x to y, or m where there is none.
 pub fn opening<'a>(
-    count: usize,
+    m: usize,
     tails: &'a [u8; 256],
     heads: &'a [u8; 256],
     costs: &'a [u64; 256],
@@ -27,12 +26,12 @@ pub fn opening<'a>(
     x: usize,
     y: usize,
 ) -> usize
-    requires { ⌜ Ends 64 count (now tails) (now heads) × Low (now costs) × Low (now potential) × (1 ≤ x) ⌝ }
-    ensures { λ r. ⌜ ((h : Hall) (n : ℕ) → Columns h n count (now (tails .entry)) (now (heads .entry)) →
-        r ≡ first-below count (λ k. opens h (flagged (now (movable .entry))) (at (now (costs .entry))) (at (now (potential .entry))) x y (suc k))) ⌝ }
+    requires { ⌜ Ends 64 m (now tails) (now heads) × Low (now costs) × Low (now potential) × (1 ≤ x) ⌝ }
+    ensures { λ r. ⌜ ((h : Hall) (n : ℕ) → Columns h n m (now (tails .entry)) (now (heads .entry)) →
+        r ≡ first-below m (λ k. opens h (flagged (now (movable .entry))) (at (now (costs .entry))) (at (now (potential .entry))) x y (suc k))) ⌝ }
 {
     let mut k: usize = 0;
-    while k < count {
+    while k < m {
         let tail = place(tails[k]);
         let head = place(heads[k]);
         let may = movable[k] & no_gap(potential[tail], costs[k], potential[head]);
@@ -41,12 +40,12 @@ pub fn opening<'a>(
         }
         k += 1;
     }
-    count
+    m
 }
 
-// The place of the first row that may be closed on the way from x to y, or the count where there is none.
+// The place of the first row that may be closed on the way from x to y, or m where there is none.
 pub fn closing<'a>(
-    count: usize,
+    m: usize,
     tails: &'a [u8; 256],
     heads: &'a [u8; 256],
     movable: &'a [bool; 256],
@@ -54,12 +53,12 @@ pub fn closing<'a>(
     x: usize,
     y: usize,
 ) -> usize
-    requires { ⌜ Ends 64 count (now tails) (now heads) × (1 ≤ x) ⌝ }
-    ensures { λ r. ⌜ ((h : Hall) (n : ℕ) → Columns h n count (now (tails .entry)) (now (heads .entry)) →
-        r ≡ first-below count (λ k. closes h (flagged (now (movable .entry))) (flagged (now (chosen .entry))) x y (suc k))) ⌝ }
+    requires { ⌜ Ends 64 m (now tails) (now heads) × (1 ≤ x) ⌝ }
+    ensures { λ r. ⌜ ((h : Hall) (n : ℕ) → Columns h n m (now (tails .entry)) (now (heads .entry)) →
+        r ≡ first-below m (λ k. closes h (flagged (now (movable .entry))) (flagged (now (chosen .entry))) x y (suc k))) ⌝ }
 {
     let mut k: usize = 0;
-    while k < count {
+    while k < m {
         let tail = place(tails[k]);
         let head = place(heads[k]);
         let may = movable[k] & chosen[k];
@@ -68,12 +67,12 @@ pub fn closing<'a>(
         }
         k += 1;
     }
-    count
+    m
 }
 
 // The flags after the arc from x to y is made: a row opened or closed, or none where it is a swap.
 pub fn make_arc<'a>(
-    count: usize,
+    m: usize,
     tails: &'a [u8; 256],
     heads: &'a [u8; 256],
     costs: &'a [u64; 256],
@@ -84,18 +83,18 @@ pub fn make_arc<'a>(
     y: usize,
     flags: [bool; 256],
 ) -> [bool; 256]
-    requires { ⌜ Ends 64 count (now tails) (now heads) × Low (now costs) × Low (now potential) × (1 ≤ x) ⌝ }
-    ensures { λ r. ⌜ ((h : Hall) (n : ℕ) → Columns h n count (now (tails .entry)) (now (heads .entry)) →
+    requires { ⌜ Ends 64 m (now tails) (now heads) × Low (now costs) × Low (now potential) × (1 ≤ x) ⌝ }
+    ensures { λ r. ⌜ ((h : Hall) (n : ℕ) → Columns h n m (now (tails .entry)) (now (heads .entry)) →
         Made h (flagged (now (movable .entry))) (at (now (costs .entry))) (at (now (potential .entry))) (flagged (now (chosen .entry))) x y (flagged flags) (flagged r)) ⌝ }
 {
     let mut next = flags;
-    let open = opening(count, tails, heads, costs, movable, potential, x, y);
-    if open < count {
+    let open = opening(m, tails, heads, costs, movable, potential, x, y);
+    if open < m {
         next[open] = true;
         return next;
     }
-    let close = closing(count, tails, heads, movable, chosen, x, y);
-    if close < count {
+    let close = closing(m, tails, heads, movable, chosen, x, y);
+    if close < m {
         next[close] = false;
         return next;
     }
@@ -104,7 +103,7 @@ pub fn make_arc<'a>(
 
 // The flags after the route from the start to the target is made, its last arc first, and the row at a place opened or closed.
 pub fn flip<'a>(
-    count: usize,
+    m: usize,
     tails: &'a [u8; 256],
     heads: &'a [u8; 256],
     costs: &'a [u64; 256],
@@ -118,21 +117,21 @@ pub fn flip<'a>(
     row: usize,
     opened: bool,
 ) -> [bool; 256]
-    requires { ⌜ Ends 64 count (now tails) (now heads) × Low (now costs) × Low (now potential)
-        × Distances 64 (out-of (now adjacency)) start (distance-of (now distances))
-        × (1 ≤ target) × (target ≤ 64) × (distance-of (now distances) target < 64) × (row < 256) × (length (now chosen) ≡ 256) ⌝ }
-    ensures { λ r. ⌜ ((h : Hall) (n : ℕ) → Columns h n count (now (tails .entry)) (now (heads .entry)) →
+    requires { ⌜ Ends 64 m (now tails) (now heads) × Low (now costs) × Low (now potential)
+        × Distances 64 (at (now adjacency)) start (at (now distances))
+        × (1 ≤ target) × (target ≤ 64) × (at (now distances) target < 64) × (row < 256) × (length (now chosen) ≡ 256) ⌝ }
+    ensures { λ r. ⌜ ((h : Hall) (n : ℕ) → Columns h n m (now (tails .entry)) (now (heads .entry)) →
         Zero-graph h (flagged (now (movable .entry))) (at (now (costs .entry))) (at (now (potential .entry))) (flagged (now (chosen .entry))) (now (adjacency .entry)) →
         target ≤ h .n →
         Walked h (flagged (now (movable .entry))) (at (now (costs .entry))) (at (now (potential .entry))) (flagged (now (chosen .entry)))
-        (distance-of (now (distances .entry))) start target (suc row) opened (flagged r)) ⌝ }
+        (at (now (distances .entry))) start target (suc row) opened (flagged r)) ⌝ }
 {
     let mut flags = *chosen;
     let mut y = target;
     while y != start {
         let x = digraph::before(adjacency, distances, y);
         let next = make_arc(
-            count,
+            m,
             tails,
             heads,
             costs,

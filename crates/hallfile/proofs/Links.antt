@@ -5,10 +5,10 @@ use mathlib.Core.List.{List}
 use Prim.Native.Nat.{ℕ, _-_, _^_, _≤_, _<_}
 use native.Mathlib.Omega.{arith}
 use lib.Dec.{eqb}
+use Rattle.laws.specs.Lists.{at}
 use Rattle.junctions.specs.Sets.{full}
 use Rattle.junctions.proofs.Single.{one-lt}
 use Rattle.digraph.specs.Reach.{Reach}
-use Rattle.digraph.specs.Adjacency.{out-of}
 use Rattle.digraph.proofs.Closure.{reach-unique, reach-narrow, reach-narrow-lt}
 use Rattle.digraph.proofs.Same.{reach-same}
 use Rattle.hall.specs.Hall.{Hall, count, member, reached}
@@ -22,15 +22,15 @@ use Rattle.columns.specs.Columns.{Arcs, flagged}
 use Rattle.adjacency.proofs.Arcs.{arcs-ext}
 
 module _ (h : Hall) (rg : Ranged h) (few : h .n ≤ 64) (flags : List Bool) (sets : List ℕ) (r : ℕ)
-    (every : (i : ℕ) → 1 ≤ i → i ≤ count h → flagged flags i ≡ true) (is-arcs : Arcs h (flagged flags) sets) (reach : Reach 64 (out-of sets) 1 r) where
-  low : (j : ℕ) → 1 ≤ j → j ≤ h .n → out-of sets j < 2 ^ h .n
+    (every : (i : ℕ) → 1 ≤ i → i ≤ count h → flagged flags i ≡ true) (is-arcs : Arcs h (flagged flags) sets) (reach : Reach 64 (at sets) 1 r) where
+  low : (j : ℕ) → 1 ≤ j → j ≤ h .n → at sets j < 2 ^ h .n
   unfolding Arcs
   low j l m = rw (is-arcs j l m) (arcs-lt h (flagged flags) j)
 
   one : 1 < 2 ^ h .n
   one = one-lt (h .n) 1 (omega arith) (rg .some)
 
-  either-way : (j : ℕ) → 1 ≤ j → j ≤ h .n → out-of sets j ≡ arcs h (λ i. member i (all-numbers (count h) 1)) j
+  either-way : (j : ℕ) → 1 ≤ j → j ≤ h .n → at sets j ≡ arcs h (λ i. member i (all-numbers (count h) 1)) j
   unfolding Arcs
   either-way j l m =
       is-arcs j l m
@@ -40,9 +40,9 @@ module _ (h : Hall) (rg : Ranged h) (few : h .n ≤ 64) (flags : List Bool) (set
   same : r ≡ reached h (all-numbers (count h) 1) 1
   same =
       reach-unique (h .n) (arcs h (λ i. member i (all-numbers (count h) 1))) 1 r (reached h (all-numbers (count h) 1) 1)
-      (reach-narrow-lt (h .n) (out-of sets) 1 r few one low reach)
+      (reach-narrow-lt (h .n) (at sets) 1 r few one low reach)
       (reached-lt h rg (all-numbers (count h) 1) 1 (omega arith) (rg .some))
-      (reach-same (h .n) (out-of sets) (arcs h (λ i. member i (all-numbers (count h) 1))) either-way 1 r (reach-narrow (h .n) (out-of sets) 1 r few one low reach))
+      (reach-same (h .n) (at sets) (arcs h (λ i. member i (all-numbers (count h) 1))) either-way 1 r (reach-narrow (h .n) (at sets) 1 r few one low reach))
       (reached-is h rg (all-numbers (count h) 1) 1 (omega arith) (rg .some))
 
   pub reach-connected : eqb r (full (h .n)) ≡ connected h

@@ -2,9 +2,10 @@
 use mathlib.Core.Path.{_≡_, refl}
 use Prim.Native.Nat.{ℕ, _-_, _≤_}
 use native.Mathlib.Omega.{arith}
+use Rattle.laws.specs.Lists.{at}
 use Rattle.hall.specs.Hall.{Hall, Row, row, row-of, count}
 use Rattle.dicuts.specs.Shores.{Ranged}
-use Rattle.columns.specs.Columns.{at, Ends, Columns}
+use Rattle.columns.specs.Columns.{Ends, Columns}
 use Rattle.columns.proofs.Ranged.{ranged-ends}
 use Rattle.hallfile.specs.declared.HallRecord.{HallRecord}
 use Rattle.hallfile.specs.Record.{column, record-of}

@@ -5,7 +5,7 @@ ghost use mathlib.Core.Path.{_≡_};
 ghost use Prim.Native.Nat.{_+_, _≤_, _<_};
 ghost use lib.ListN.{length};
 ghost use Rattle.hall.specs.File.{field};
-ghost use Rattle.hallfile.specs.Steps.{Ahead, Settled, Next};
+ghost use Rattle.hallfile.specs.Steps.{Row-ahead, Settled-place, Next-row};
 
 // Where the next row stands, how many rows its block has left, and the block after it.
 pub struct Place {
@@ -29,8 +29,8 @@ pub struct Step {
 
 // The place of a row that is there to read: where a block is used up, the next block's first.
 pub fn settle(file: &[u8], place: Place) -> Place
-    requires { ⌜ Ahead (now file) place ⌝ }
-    ensures { λ r. ⌜ Settled (now (file .entry)) place r ⌝ }
+    requires { ⌜ Row-ahead (now file) place ⌝ }
+    ensures { λ r. ⌜ Settled-place (now (file .entry)) place r ⌝ }
 {
     let left = place.left;
     if 0 < left {
@@ -59,8 +59,8 @@ pub fn lane_at(file: &[u8], at: usize) -> Lane
 
 // The row in front of a place, and the place after it.
 pub fn step_from(file: &[u8], place: Place) -> Step
-    requires { ⌜ Ahead (now file) place ⌝ }
-    ensures { λ r. ⌜ Next (now (file .entry)) place r ⌝ }
+    requires { ⌜ Row-ahead (now file) place ⌝ }
+    ensures { λ r. ⌜ Next-row (now (file .entry)) place r ⌝ }
 {
     let here = settle(file, place);
     let lane = lane_at(file, here.at);

@@ -2,7 +2,7 @@
 use crate::places;
 use crate::places::Place;
 use crate::places::Step;
-ghost use Rattle.hallfile.specs.Steps.{Ahead, Next};
+ghost use Rattle.hallfile.specs.Steps.{Row-ahead, Next-row};
 
 pub struct Rows<'a> {
     pub file: &'a [u8],
@@ -11,16 +11,16 @@ pub struct Rows<'a> {
 
 // The row in front of the view, and the place after it.
 pub fn next<'a>(rows: Rows<'a>) -> Step
-    requires { ⌜ Ahead (now (rows .file)) (rows .place) ⌝ }
-    ensures { λ r. ⌜ Next (now (rows .entry .file)) (rows .entry .place) r ⌝ }
+    requires { ⌜ Row-ahead (now (rows .file)) (rows .place) ⌝ }
+    ensures { λ r. ⌜ Next-row (now (rows .entry .file)) (rows .entry .place) r ⌝ }
 {
     places::step_from(rows.file, rows.place)
 }
 
 // The same, for whoever has a file and a place.
 pub fn next_row(file: &[u8], place: Place) -> Step
-    requires { ⌜ Ahead (now file) place ⌝ }
-    ensures { λ r. ⌜ Next (now (file .entry)) place r ⌝ }
+    requires { ⌜ Row-ahead (now file) place ⌝ }
+    ensures { λ r. ⌜ Next-row (now (file .entry)) place r ⌝ }
 {
     next(Rows { file, place })
 }

@@ -14,7 +14,7 @@ use Rattle.laws.proofs.Booleans.{clash, and-l, and-r, and-i, or-cases, or-l, or
 use Rattle.junctions.specs.Sets.{holds, with-junction, Within}
 use Rattle.junctions.proofs.Sets.{or-holds, or-with, with-holds}
 use Rattle.hall.specs.Hall.{Row, row-of, member, over-rows}
-use Rattle.joining.specs.Sound.{Ends}
+use Rattle.joining.specs.Sound.{Row-ends}
 
 -- the set with junction b put in where the test passes
 abbrev pass : (go : Bool) → (b s : ℕ) → ℕ
@@ -54,11 +54,11 @@ unfolding Within
 both-ways-grows b r s j l t =
     pass-grows (b && holds (forward r s) (r .to)) (r .from) (forward r s) j l (pass-grows (holds s (r .from)) (r .to) s j l t)
 
-both-ways-lt : (n : ℕ) (b : Bool) (r : Row) (s : ℕ) → Ends n r → s < 2 ^ n → both-ways b r s < 2 ^ n
+both-ways-lt : (n : ℕ) (b : Bool) (r : Row) (s : ℕ) → Row-ends n r → s < 2 ^ n → both-ways b r s < 2 ^ n
 both-ways-lt n b r s e h =
     pass-lt n (b && holds (forward r s) (r .to)) (r .from) (forward r s) (pass-lt n (holds s (r .from)) (r .to) s h (e .to-low) (e .to-high)) (e .from-low) (e .from-high)
 
-both-ways-within : (n : ℕ) (b : Bool) (r : Row) (s t : ℕ) → Ends n r → Within s t →
+both-ways-within : (n : ℕ) (b : Bool) (r : Row) (s t : ℕ) → Row-ends n r → Within s t →
     (holds t (r .from) ≡ true → holds t (r .to) ≡ true) → (b ≡ true → holds t (r .to) ≡ true → holds t (r .from) ≡ true) → Within (both-ways b r s) t
 unfolding Within
 both-ways-within n b r s t e w f g =
@@ -76,13 +76,13 @@ module _ (c : List ℕ) where
   over-grows i (r ∷ rs) s j l t = over-grows (suc i) rs (both-ways (member i c) r s) j l (both-ways-grows (member i c) r s j l t)
 
 module _ (n : ℕ) (c : List ℕ) where
-  pub over-lt : (i : ℕ) (rs : List Row) (s : ℕ) → ((k : ℕ) → k < length rs → Ends n (getD rs k none)) → s < 2 ^ n → over-rows i rs c s < 2 ^ n
+  pub over-lt : (i : ℕ) (rs : List Row) (s : ℕ) → ((k : ℕ) → k < length rs → Row-ends n (getD rs k none)) → s < 2 ^ n → over-rows i rs c s < 2 ^ n
   unfolding over-rows
   over-lt i [] s e h = h
   over-lt i (r ∷ rs) s e h =
       over-lt (suc i) rs (both-ways (member i c) r s) (λ k l. e (suc k) (omega arith)) (both-ways-lt n (member i c) r s (e 0 (omega arith)) h)
 
-  pub over-within : (i : ℕ) (rs : List Row) (s t : ℕ) → ((k : ℕ) → k < length rs → Ends n (getD rs k none)) →
+  pub over-within : (i : ℕ) (rs : List Row) (s t : ℕ) → ((k : ℕ) → k < length rs → Row-ends n (getD rs k none)) →
       ((k : ℕ) → k < length rs → holds t (getD rs k none .from) ≡ true → holds t (getD rs k none .to) ≡ true) →
       ((k : ℕ) → k < length rs → member (i + k) c ≡ true → holds t (getD rs k none .to) ≡ true → holds t (getD rs k none .from) ≡ true) →
       Within s t → Within (over-rows i rs c s) t
@@ -95,7 +95,7 @@ module _ (n : ℕ) (c : List ℕ) where
       (both-ways-within n (member i c) r s t (e 0 (omega arith)) w (f 0 (omega arith)) (λ m. g 0 (omega arith) (ap (λ (x : ℕ). member x c) (sym here) ∙ m)))
 
   -- what the set holds at a row's start it then holds at its end, and back where the row is chosen
-  pub over-forward : (i : ℕ) (rs : List Row) (s : ℕ) → ((k : ℕ) → k < length rs → Ends n (getD rs k none)) → (k : ℕ) → k < length rs →
+  pub over-forward : (i : ℕ) (rs : List Row) (s : ℕ) → ((k : ℕ) → k < length rs → Row-ends n (getD rs k none)) → (k : ℕ) → k < length rs →
       holds s (getD rs k none .from) ≡ true → holds (over-rows i rs c s) (getD rs k none .to) ≡ true
   unfolding over-rows Within
   over-forward i [] s e k l t = absurd (omega arith)
@@ -108,7 +108,7 @@ module _ (n : ℕ) (c : List ℕ) where
       over-forward (suc i) rs (both-ways (member i c) r s) (λ k l. e (suc k) (omega arith)) k (omega arith)
       (both-ways-grows (member i c) r s (getD rs k none .from) (e (suc k) (omega arith) .from-low) t)
 
-  pub over-backward : (i : ℕ) (rs : List Row) (s : ℕ) → ((k : ℕ) → k < length rs → Ends n (getD rs k none)) → (k : ℕ) → k < length rs → member (i + k) c ≡ true →
+  pub over-backward : (i : ℕ) (rs : List Row) (s : ℕ) → ((k : ℕ) → k < length rs → Row-ends n (getD rs k none)) → (k : ℕ) → k < length rs → member (i + k) c ≡ true →
       holds s (getD rs k none .to) ≡ true → holds (over-rows i rs c s) (getD rs k none .from) ≡ true
   unfolding over-rows Within
   over-backward i [] s e k l m t = absurd (omega arith)

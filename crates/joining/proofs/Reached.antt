@@ -15,14 +15,14 @@ use Rattle.digraph.specs.Reach.{Reach}
 use Rattle.hall.specs.Hall.{Hall, row, row-of, count, member, over-rows, spread, reached}
 use Rattle.dicuts.specs.Shores.{Ranged}
 use Rattle.dicuts.specs.Arcs.{arcs}
-use Rattle.joining.specs.Sound.{Ends}
+use Rattle.joining.specs.Sound.{Row-ends}
 use Rattle.joining.specs.Sealed.{Sealed}
 use Rattle.joining.proofs.Sealed.{sealed-closed, closed-sealed}
 use Rattle.joining.proofs.Passes.{over-grows, over-lt, over-within, over-forward, over-backward}
 
 module _ (h : Hall) (rg : Ranged h) where
   -- the rows by their place in the list
-  ends-at : (k : ℕ) → k < length (h .rows) → Ends (h .n) (getD (h .rows) k (row-of 0 0 0))
+  ends-at : (k : ℕ) → k < length (h .rows) → Row-ends (h .n) (getD (h .rows) k (row-of 0 0 0))
   unfolding row count
   ends-at k l =
       let e : suc k - 1 ≡ k = omega arith in

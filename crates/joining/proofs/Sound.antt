@@ -11,7 +11,7 @@ use Rattle.laws.proofs.Booleans.{by-bool, and-l, and-r, and-i, cond-true, cond-
 use Rattle.hall.specs.Hall.{Row, hall, row, row-of, count}
 use Rattle.hall.specs.File.{field, blocks, pairs-good, hall-in, Refusal, refusal, or-else, row-number, rows-refusal, connected, hall-refusal}
 use Rattle.dicuts.specs.Shores.{Ranged}
-use Rattle.joining.specs.Sound.{Ends, Sound}
+use Rattle.joining.specs.Sound.{Row-ends, Sound}
 
 -- a refusal's number is none of 2 to 8
 abbrev pub Other : ℕ → Type 0
@@ -19,7 +19,7 @@ Other k = 2 ≤ k → k ≤ 8 → ⊥
 
 -- the three tests of a row
 record Fit (n : ℕ) (r : Row) : Type 0 where
-  ends : Ends n r
+  ends : Row-ends n r
   apart : r .from ≡ r .to → ⊥
   price : r .price ≤ 1000000
 

@@ -8,7 +8,7 @@ use Rattle.hall.specs.Hall.{Row, row, count}
 use Rattle.hall.specs.File.{blocks, pairs-good, hall-in}
 
 -- both ends of the row are junctions 1 to n
-pub record Ends (n : ℕ) (r : Row) : Type 0 where
+pub record Row-ends (n : ℕ) (r : Row) : Type 0 where
   pub from-low : 1 ≤ r .from
   pub from-high : r .from ≤ n
   pub to-low : 1 ≤ r .to
@@ -29,6 +29,6 @@ pub record Sound (bs : List ℕ) : Type 0 where
   -- 5, its rows
   pub rows-few : count (hall-in bs) ≤ 256
   -- 6, 7 and 8, each row
-  pub ends : (i : ℕ) → 1 ≤ i → i ≤ count (hall-in bs) → Ends (hall-in bs .n) (row (hall-in bs) i)
+  pub ends : (i : ℕ) → 1 ≤ i → i ≤ count (hall-in bs) → Row-ends (hall-in bs .n) (row (hall-in bs) i)
   pub apart : (i : ℕ) → 1 ≤ i → i ≤ count (hall-in bs) → row (hall-in bs) i .from ≡ row (hall-in bs) i .to → ⊥
   pub price : (i : ℕ) → 1 ≤ i → i ≤ count (hall-in bs) → row (hall-in bs) i .price ≤ 1000000

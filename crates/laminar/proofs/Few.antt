@@ -17,7 +17,7 @@ use Rattle.hall.specs.Hall.{Hall, row, count}
 use Rattle.hall.specs.Plan.{Cut, cross, none-cross, cuts-good, most-cuts}
 use Rattle.dicuts.specs.Shores.{Ranged, Linked, Shore}
 use Rattle.dicuts.proofs.Shores.{cut-shore, shore-lt}
-use Rattle.laminar.specs.Families.{Crossing, Cross-free, shores}
+use Rattle.laminar.specs.Families.{Crossing, Cross-free, shore-family}
 use Rattle.laminar.proofs.Cross.{crossing-cross}
 use Rattle.laminar.proofs.CrossFree.{crossing-swap, cross-free-bound}
 
@@ -57,34 +57,34 @@ no-self-crossing n s x = let w = x .overlap .left in clash (w .first) (w .second
 
 -- the shores of good cuts
 module _ (h : Hall) where
-  pub shores-skip : (a : ℕ) (ks : List Cut) → cuts-good h a ks ≡ true → (s : ℕ) → s < a → shores ks s ≡ false
-  unfolding shores
+  pub shores-skip : (a : ℕ) (ks : List Cut) → cuts-good h a ks ≡ true → (s : ℕ) → s < a → shore-family ks s ≡ false
+  unfolding shore-family
   shores-skip a [] good s l = refl
   shores-skip a (c ∷ cs) good s l =
       let least = first-least h a c cs good in
       rw (ne-eqb (c .shore) s (λ e. omega arith)) (shores-skip (suc (c .shore)) cs (rest-good h a c cs good) s (omega arith))
 
-  pub shores-are : (a : ℕ) (ks : List Cut) → cuts-good h a ks ≡ true → (s : ℕ) → shores ks s ≡ true → Shore h s
-  unfolding shores
+  pub shores-are : (a : ℕ) (ks : List Cut) → cuts-good h a ks ≡ true → (s : ℕ) → shore-family ks s ≡ true → Shore h s
+  unfolding shore-family
   shores-are a [] good s e = clash e refl
   shores-are a (c ∷ cs) good s e =
       ⊎-elim (λ (q : eqb (c .shore) s ≡ true). rw (eqb-true (c .shore) s q) at (first-shore h a c cs good))
-      (λ (q : shores cs s ≡ true). shores-are (suc (c .shore)) cs (rest-good h a c cs good) s q)
-      (or-cases (eqb (c .shore) s) (shores cs s) e)
+      (λ (q : shore-family cs s ≡ true). shores-are (suc (c .shore)) cs (rest-good h a c cs good) s q)
+      (or-cases (eqb (c .shore) s) (shore-family cs s) e)
 
-  none-crosses : (s : ℕ) (cs : List Cut) → none-cross (h .n) s cs ≡ true → (t : ℕ) → shores cs t ≡ true → Crossing (h .n) s t → ⊥
-  unfolding shores none-cross
+  none-crosses : (s : ℕ) (cs : List Cut) → none-cross (h .n) s cs ≡ true → (t : ℕ) → shore-family cs t ≡ true → Crossing (h .n) s t → ⊥
+  unfolding shore-family none-cross
   none-crosses s [] e t f x = clash f refl
   none-crosses s (c ∷ cs) e t f x =
       ⊎-elim
       (λ (q : eqb (c .shore) t ≡ true).
       let u : cross (h .n) s (c .shore) ≡ false = search (and-l, not-true) in
       clash (crossing-cross (h .n) s t x) (rw (eqb-true (c .shore) t q) at u))
-      (λ (q : shores cs t ≡ true). none-crosses s cs (and-r (not (cross (h .n) s (c .shore))) (none-cross (h .n) s cs) e) t q x)
-      (or-cases (eqb (c .shore) t) (shores cs t) f)
+      (λ (q : shore-family cs t ≡ true). none-crosses s cs (and-r (not (cross (h .n) s (c .shore))) (none-cross (h .n) s cs) e) t q x)
+      (or-cases (eqb (c .shore) t) (shore-family cs t) f)
 
-  shores-uncrossed : (a : ℕ) (ks : List Cut) → cuts-good h a ks ≡ true → (s t : ℕ) → shores ks s ≡ true → shores ks t ≡ true → Crossing (h .n) s t → ⊥
-  unfolding shores
+  shores-uncrossed : (a : ℕ) (ks : List Cut) → cuts-good h a ks ≡ true → (s t : ℕ) → shore-family ks s ≡ true → shore-family ks t ≡ true → Crossing (h .n) s t → ⊥
+  unfolding shore-family
   shores-uncrossed a [] good s t e f x = clash e refl
   shores-uncrossed a (c ∷ cs) good s t e f x =
       let up = shores-uncrossed (suc (c .shore)) cs (rest-good h a c cs good) s t in
@@ -92,28 +92,28 @@ module _ (h : Hall) where
       (λ (p : eqb (c .shore) s ≡ true).
       ⊎-elim
       (λ (q : eqb (c .shore) t ≡ true). no-self-crossing (h .n) s (rw (sym (eqb-true (c .shore) t q) ∙ eqb-true (c .shore) s p) at x))
-      (λ (q : shores cs t ≡ true). none-crosses (c .shore) cs (first-uncrossed h a c cs good) t q (rw (sym (eqb-true (c .shore) s p)) at x))
-      (or-cases (eqb (c .shore) t) (shores cs t) f))
-      (λ (p : shores cs s ≡ true).
+      (λ (q : shore-family cs t ≡ true). none-crosses (c .shore) cs (first-uncrossed h a c cs good) t q (rw (sym (eqb-true (c .shore) s p)) at x))
+      (or-cases (eqb (c .shore) t) (shore-family cs t) f))
+      (λ (p : shore-family cs s ≡ true).
       ⊎-elim
       (λ (q : eqb (c .shore) t ≡ true).
       none-crosses (c .shore) cs (first-uncrossed h a c cs good) s p (crossing-swap (rw (sym (eqb-true (c .shore) t q)) at x)))
-      (λ (q : shores cs t ≡ true). up p q x)
-      (or-cases (eqb (c .shore) t) (shores cs t) f))
-      (or-cases (eqb (c .shore) s) (shores cs s) e)
+      (λ (q : shore-family cs t ≡ true). up p q x)
+      (or-cases (eqb (c .shore) t) (shore-family cs t) f))
+      (or-cases (eqb (c .shore) s) (shore-family cs s) e)
 
-  pub shores-cross-free : (a : ℕ) (ks : List Cut) → cuts-good h a ks ≡ true → Cross-free (h .n) (shores ks)
+  pub shores-cross-free : (a : ℕ) (ks : List Cut) → cuts-good h a ks ≡ true → Cross-free (h .n) (shore-family ks)
   unfolding Cross-free
   shores-cross-free a ks good s t ls lt e f x = shores-uncrossed a ks good s t e f x
 
-  pub shores-count : (a : ℕ) (ks : List Cut) → cuts-good h a ks ≡ true → count-below (2 ^ h .n) (shores ks) ≡ length ks
-  unfolding shores
+  pub shores-count : (a : ℕ) (ks : List Cut) → cuts-good h a ks ≡ true → count-below (2 ^ h .n) (shore-family ks) ≡ length ks
+  unfolding shore-family
   shores-count a [] good = count-none (2 ^ h .n) (λ s. false) (λ s l. refl)
   shores-count a (c ∷ cs) good =
       let rest = rest-good h a c cs good in
       omega (
         arith,
-        count-insert (2 ^ h .n) (c .shore) (shores cs) (shore-lt h (c .shore) (first-shore h a c cs good)) (shores-skip (suc (c .shore)) cs rest (c .shore) (omega arith)),
+        count-insert (2 ^ h .n) (c .shore) (shore-family cs) (shore-lt h (c .shore) (first-shore h a c cs good)) (shores-skip (suc (c .shore)) cs rest (c .shore) (omega arith)),
         shores-count (suc (c .shore)) cs rest,
       )
 
@@ -124,9 +124,9 @@ few-cuts h ranged linked ks good =
     omega (
       arith,
       shores-count h 1 ks good,
-      cross-free-bound (h .n) (shores ks) (ranged .some) (shores-cross-free h 1 ks good) (shores-skip h 1 ks good 0 (omega arith)) proper
+      cross-free-bound (h .n) (shore-family ks) (ranged .some) (shores-cross-free h 1 ks good) (shores-skip h 1 ks good 0 (omega arith)) proper
           (λ s l e f. rest-no-shore h ranged linked s (shores-are h 1 ks good s e) (shores-are h 1 ks good (full (h .n) - s) f)),
     )
   where
-    proper : shores ks (full (h .n)) ≡ false
-    proper = not-true-false (shores ks (full (h .n))) (λ e. omega (arith, shores-are h 1 ks good (full (h .n)) e .proper))
+    proper : shore-family ks (full (h .n)) ≡ false
+    proper = not-true-false (shore-family ks (full (h .n))) (λ e. omega (arith, shores-are h 1 ks good (full (h .n)) e .proper))

@@ -35,6 +35,6 @@ unfoldable pub Cross-free : (n : ℕ) → (family : ℕ → Bool) → Type 0
 Cross-free n F = (a b : ℕ) → a < 2 ^ n → b < 2 ^ n → F a ≡ true → F b ≡ true → Crossing n a b → ⊥
 
 -- the family of the shores of the listed cuts
-unfoldable pub shores : List Cut → ℕ → Bool
-shores [] s = false
-shores (c ∷ cs) s = eqb (c .shore) s || shores cs s
+unfoldable pub shore-family : List Cut → ℕ → Bool
+shore-family [] s = false
+shore-family (c ∷ cs) s = eqb (c .shore) s || shore-family cs s

@@ -1,6 +1,8 @@
--- Tests and properties over all of a list, and the test that two lists are the same. Assumes nothing: these are definitions.
+-- Tests and properties over all of a list, the test that two lists are the same, and places of a column. Assumes nothing: these are definitions.
 use mathlib.Core.Bool.{Bool, true, false, _&&_}
 use mathlib.Core.List.{List, [], _∷_}
+use Prim.Native.Nat.{ℕ, _-_}
+use lib.ListN.{getD}
 
 -- everything in the list passes
 unfoldable pub all-in : {A : Type 0} → (A → Bool) → List A → Bool
@@ -22,3 +24,7 @@ same-list same [] [] = true
 same-list same [] (y ∷ ys) = false
 same-list same (x ∷ xs) [] = false
 same-list same (x ∷ xs) (y ∷ ys) = same x y && same-list same xs ys
+
+-- the number at place i of a column, counted from 1
+abbrev pub at : List ℕ → (i : ℕ) → ℕ
+at xs i = getD xs (i - 1) 0

@@ -7,12 +7,13 @@ use native.Mathlib.Numerals.{add-one}
 use native.Mathlib.Omega.{arith}
 use lib.ListN.{getD, length, set, drop, length-set, length-append}
 use lib.Seq.{drop-cons, append-snoc, set-at}
+use Rattle.laws.specs.Lists.{at}
 use Rattle.laws.specs.Finite.{sum-below}
 use Rattle.laws.proofs.Booleans.{by-bool}
 use Rattle.laws.proofs.Finite.{sum-ext}
 use Rattle.hall.specs.Hall.{Hall, row, count}
 use Rattle.hall.specs.Plan.{total}
-use Rattle.columns.specs.Columns.{at, flagged}
+use Rattle.columns.specs.Columns.{flagged}
 use Rattle.choicelists.specs.Listed.{passing, listed}
 use Rattle.choicelists.proofs.Totals.{listed-total}
 

@@ -6,8 +6,8 @@ use native.Mathlib.Omega.{arith}
 use lib.ListN.{getD, set, replicate, length-set, length-replicate}
 use lib.Seq.{getD-set-same, getD-set-other}
 use borrow.Author.Count.{below-more}
+use Rattle.laws.specs.Lists.{at}
 use Rattle.laws.proofs.Lists.{replicate-at}
-use Rattle.columns.specs.Columns.{at}
 use Rattle.ledger.specs.Padded.{Padded}
 
 module _ (size : ℕ) (f : ℕ → ℕ) where

@@ -11,5 +11,5 @@ pub record Padded (size : ℕ) (f : ℕ → ℕ) (k : ℕ) (column : List ℕ) :
   pub rest : (i : ℕ) → k ≤ i → getD column i 0 ≡ 0
 
 -- none of the first m prices is over 1,000,000
-abbrev pub Priced : (m : ℕ) → (prices : List ℕ) → Type 0
-Priced m prices = (k : ℕ) → k < m → getD prices k 0 ≤ 1000000
+abbrev pub Prices-low : (m : ℕ) → (prices : List ℕ) → Type 0
+Prices-low m prices = (k : ℕ) → k < m → getD prices k 0 ≤ 1000000

@@ -1,11 +1,11 @@
 // Costs from prices, and a potential for the ranked costs.
 ghost use Prim.Native.Nat.{ℕ, _+_, _*_, _^_, _≤_, _<_};
 ghost use lib.ListN.{getD};
-ghost use Rattle.ledger.specs.Padded.{Padded, Priced};
+ghost use Rattle.ledger.specs.Padded.{Padded, Prices-low};
 
 // The prices of the first m rows.
 pub fn price_costs(m: usize, prices: &[u32; 256]) -> [u64; 256]
-    requires { ⌜ (m ≤ 256) × Priced m (now prices) ⌝ }
+    requires { ⌜ (m ≤ 256) × Prices-low m (now prices) ⌝ }
     ensures { λ r. ⌜ Padded 256 (λ (k : ℕ). getD (now (prices .entry)) k 0) m r ⌝ }
 {
     let mut costs = [0u64; 256];
@@ -19,7 +19,7 @@ pub fn price_costs(m: usize, prices: &[u32; 256]) -> [u64; 256]
 
 // The ranked costs of the first m rows: they decide by total, then by row count.
 pub fn ranked_costs(m: usize, prices: &[u32; 256]) -> [u64; 256]
-    requires { ⌜ (m ≤ 256) × Priced m (now prices) ⌝ }
+    requires { ⌜ (m ≤ 256) × Prices-low m (now prices) ⌝ }
     ensures { λ r. ⌜ Padded 256 (λ (k : ℕ). 257 * getD (now (prices .entry)) k 0 + 1) m r ⌝ }
 {
     let mut costs = [0u64; 256];

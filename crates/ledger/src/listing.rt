@@ -8,7 +8,7 @@ ghost use Rattle.laws.specs.Finite.{sum-below};
 ghost use Rattle.hall.specs.Hall.{Hall, count};
 ghost use Rattle.columns.specs.Columns.{flagged};
 ghost use Rattle.choicelists.specs.Listed.{listed};
-ghost use Rattle.ledger.specs.Padded.{Priced};
+ghost use Rattle.ledger.specs.Padded.{Prices-low};
 
 // The numbers of the flagged rows, ascending, into the first places. Returns how many there are.
 pub fn list_rows(m: usize, flags: &[bool; 256], rows: &mut [u32]) -> usize
@@ -31,7 +31,7 @@ pub fn list_rows(m: usize, flags: &[bool; 256], rows: &mut [u32]) -> usize
 
 // The prices of the flagged rows, together.
 pub fn total_of<'a>(m: usize, prices: &'a [u32; 256], flags: &'a [bool; 256]) -> u32
-    requires { ⌜ (m ≤ 256) × Priced m (now prices) ⌝ }
+    requires { ⌜ (m ≤ 256) × Prices-low m (now prices) ⌝ }
     ensures { λ r. ⌜ r ≡ sum-below m (λ (k : ℕ). cond (getD (now (flags .entry)) k false) (getD (now (prices .entry)) k 0) 0) ⌝ }
 {
     let mut total: u32 = 0;

@@ -7,6 +7,7 @@ use native.Mathlib.Omega.{arith}
 use lib.Dec.{ltb}
 use lib.ListN.{getD, replicate, getD-replicate}
 use borrow.Author.Tests.{ltb-true, ltb-false}
+use Rattle.laws.specs.Lists.{at}
 use Rattle.laws.proofs.Booleans.{by-bool}
 use Rattle.hall.specs.Hall.{Hall, row, count}
 use Rattle.dicuts.specs.Shores.{Ranged, Linked}
@@ -15,11 +16,11 @@ use Rattle.potentials.specs.Repair.{Repairable, Repaired}
 use Rattle.potentials.proofs.Same.{repaired-same}
 use Rattle.potentials.proofs.Starts.{cost-most, ranked-repairable, ranked-slack}
 use Rattle.order.specs.Ranked.{ranked}
-use Rattle.columns.specs.Columns.{at, flagged, Ends, Columns, Neighbourhoods}
+use Rattle.columns.specs.Columns.{flagged, Ends, Columns, Neighbourhoods}
 use Rattle.zerograph.specs.Low.{Low}
 use Rattle.repair.specs.declared.State.{State}
 use Rattle.repair.specs.Repairs.{Repair-start}
-use Rattle.ledger.specs.Padded.{Padded, Priced}
+use Rattle.ledger.specs.Padded.{Padded, Prices-low}
 use Rattle.plan.specs.Ready.{Modest, Ready, Cheapest}
 
 -- the columns hold an accepted hall and its prices
@@ -37,7 +38,7 @@ pub record Least (h : Hall) (s : State) : Type 0 where
   pub low : (j : ℕ) → 1 ≤ j → j ≤ 64 → at (s .potential) j ≤ 256000000
 
 module _ (h : Hall) (n m : ℕ) (tails heads prices : List ℕ) (rd : Accepted h n m tails heads prices) (ends : Ends n m tails heads) where
-  pub priced : Priced m prices
+  pub priced : Prices-low m prices
   priced k l =
       let e : suc k - 1 ≡ k = omega arith in
       let here : at prices (suc k) ≡ getD prices k 0 = ap (λ (x : ℕ). getD prices x 0) e in

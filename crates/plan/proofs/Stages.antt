@@ -8,10 +8,11 @@ use native.Mathlib.Omega.{arith}
 use lib.Dec.{ltb}
 use lib.ListN.{length, getD, replicate, getD-replicate, List·getD-eq-default}
 use borrow.Author.Tests.{ltb-true, ltb-false}
+use Rattle.laws.specs.Lists.{at}
 use Rattle.laws.proofs.Booleans.{by-bool}
 use Rattle.hall.specs.Hall.{Hall, count}
 use Rattle.dicuts.specs.Shores.{once, Joining}
-use Rattle.columns.specs.Columns.{at, flagged, Ends, Neighbourhoods}
+use Rattle.columns.specs.Columns.{flagged, Ends, Neighbourhoods}
 use Rattle.potentials.specs.Potential.{slack, cost}
 use Rattle.potentials.specs.Repair.{Repairable}
 use Rattle.potentials.proofs.Starts.{cost-mono, cost-most, flat-repairable, flat-slack}

@@ -3,11 +3,12 @@ use mathlib.Core.Bool.{Bool}
 use mathlib.Core.List.{List}
 use Prim.Native.Nat.{ℕ, _^_, _≤_, _<_}
 use lib.ListN.{getD}
+use Rattle.laws.specs.Lists.{at}
 use Rattle.hall.specs.Hall.{Hall}
 use Rattle.dicuts.specs.Shores.{Ranged, once, Joining}
 use Rattle.potentials.specs.Potential.{cost}
 use Rattle.potentials.specs.Repair.{Repaired}
-use Rattle.columns.specs.Columns.{at, flagged, Columns, Neighbourhoods}
+use Rattle.columns.specs.Columns.{flagged, Columns, Neighbourhoods}
 use Rattle.repair.specs.declared.State.{State}
 
 -- every cost is below 2 to the power 53: those of 256 rows together are below 2 to the power 61

@@ -3,13 +3,14 @@
 use repair::State;
 ghost use mathlib.Core.Path.{_≡_};
 ghost use Prim.Native.Nat.{ℕ, _≤_};
+ghost use Rattle.laws.specs.Lists.{at};
 ghost use Rattle.hall.specs.Hall.{Hall};
 ghost use Rattle.hall.specs.Plan.{First};
 ghost use Rattle.dicuts.specs.Shores.{Ranged};
 ghost use Rattle.potentials.specs.Repair.{Repairable};
 ghost use Rattle.order.specs.Ranked.{ranked};
 ghost use Rattle.choicelists.specs.Listed.{listed};
-ghost use Rattle.columns.specs.Columns.{at, flagged, Ends, Columns, Neighbourhoods};
+ghost use Rattle.columns.specs.Columns.{flagged, Ends, Columns, Neighbourhoods};
 ghost use Rattle.zerograph.specs.Low.{Low};
 ghost use Rattle.repair.specs.Repairs.{Repair-start};
 ghost use Rattle.plan.specs.Ready.{Modest, Ready, Cheapest};

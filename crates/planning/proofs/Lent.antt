@@ -17,18 +17,18 @@ use Rattle.refusals.specs.declared.Kind.the-variants.{ListShort}
 use Rattle.refusals.specs.Kinds.{refusal-of}
 use Rattle.cutlist.specs.declared.Cut.{Cut}
 use Rattle.cutlist.specs.declared.Lists.{Lists}
-use Rattle.cutlist.specs.Cuts.{lent-cut, lent, listed, cuts-from, cuts-of}
+use Rattle.cutlist.specs.Cuts.{lent-cut, lent, listed-cut, cuts-from, cuts-of}
 use Rattle.cutlist.proofs.Lent.{cuts-in-front}
 use Rattle.planning.specs.declared.Planned.{Planned}
 use Rattle.planning.specs.Plan.{unplanned, plan-refusal, shores, weights, in-front, Filled, Turned, Plan-as, Plan-says}
 use Rattle.planning.specs.Lent.{lent-refusal, Lent-filled, Lent-turned, Lent-as, Lent-says, Outlined}
 
 -- the cuts of two lists from a place on, where each is the one listed there
-cuts-are : (l : Lists) (k : ℕ) (ks : List plan.Cut) → ((i : ℕ) → i < length ks → listed l (k + i) ≡ lent (getD ks i (plan.cut 0 0))) → cuts-from l k (length ks) ≡ map lent ks
+cuts-are : (l : Lists) (k : ℕ) (ks : List plan.Cut) → ((i : ℕ) → i < length ks → listed-cut l (k + i) ≡ lent (getD ks i (plan.cut 0 0))) → cuts-from l k (length ks) ≡ map lent ks
 unfolding cuts-from
 cuts-are l k [] at = refl
 cuts-are l k (c ∷ ks) at =
-    ap₂ _∷_ (ap (listed l) (sym (add-zero k)) ∙ at 0 (omega arith)) (cuts-are l (suc k) ks (λ i h. ap (listed l) (suc-add k i ∙ sym (add-suc k i)) ∙ at (suc i) (omega (arith, h))))
+    ap₂ _∷_ (ap (listed-cut l) (sym (add-zero k)) ∙ at 0 (omega arith)) (cuts-are l (suc k) ks (λ i h. ap (listed-cut l) (suc-add k i ∙ sym (add-suc k i)) ∙ at (suc i) (omega (arith, h))))
 
 shore-at : (ks : List plan.Cut) (i : ℕ) → i < length ks → getD (shores ks) i 0 ≡ getD ks i (plan.cut 0 0) .shore
 unfolding shores

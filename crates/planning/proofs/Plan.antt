@@ -8,19 +8,20 @@ use lib.Dec.{eqb, ltb}
 use lib.IntN.{ℤ}
 use lib.ListN.{length, getD, drop, replicate, getD-replicate}
 use borrow.Author.Tests.{eqb-true, eqb-false, ltb-false}
+use Rattle.laws.specs.Lists.{at}
 use Rattle.laws.specs.Finite.{sum-below}
 use Rattle.laws.proofs.Booleans.{cond-true, cond-false, or-false-l, or-false-r}
 use Rattle.hall.specs.Hall.{Hall, count}
 use Rattle.hall.specs.File.{hall-in, hall-refusal, Refusal, refusal}
 use Rattle.hall.specs.Plan.{First, total, levels}
 use Rattle.dicuts.specs.Shores.{once}
-use Rattle.columns.specs.Columns.{at, flagged, Ends, Arcs}
+use Rattle.columns.specs.Columns.{flagged, Ends, Arcs}
 use Rattle.adjacency.proofs.Arcs.{arcs-ext}
 use Rattle.choicelists.specs.Listed.{listed}
 use Rattle.certificates.specs.Cuts.{cuts}
 use Rattle.certificates.proofs.First.{beside-first}
 use Rattle.cuts.specs.Beside.{highest, Beside-rows}
-use Rattle.cuts.specs.Thresholds.{Under}
+use Rattle.cuts.specs.Thresholds.{Under-top}
 use Rattle.cuts.specs.Listed.{Filled-with}
 use Rattle.cuts.specs.Levels.{Levelled}
 use Rattle.hallfile.specs.declared.HallRecord.{HallRecord}
@@ -55,8 +56,8 @@ every-flagged h sets few is-arcs y l u =
     is-arcs y l u ∙ arcs-ext h (flagged (replicate 256 true)) (λ i. true) (λ i p q. getD-replicate 256 (i - 1) true false (omega arith)) y
 
 module _ (h : Hall) (n m : ℕ) (tails heads prices : List ℕ) (rd : Accepted h n m tails heads prices) (ends : Ends n m tails heads) (s : State) (least : Least h s) where
-  pub under : Under n (at (s .potential)) highest
-  unfolding Under
+  pub under : Under-top n (at (s .potential)) highest
+  unfolding Under-top
   under j l u = least .low j l (omega (arith, ends .size))
 
   pub beside-rows : (links : List ℕ) → Arcs h (λ i. true) links → Beside-rows h (flagged (s .chosen)) n links (s .around) (s .potential)

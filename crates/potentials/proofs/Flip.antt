@@ -16,7 +16,7 @@ use Rattle.junctions.specs.Sets.{holds}
 use Rattle.digraph.specs.Paths.{Climb}
 use Rattle.hall.specs.Hall.{Hall, row}
 use Rattle.dicuts.specs.Shores.{Shore, cover, once, around, Joining, Sep}
-use Rattle.dicuts.specs.Crossing.{taken, added, Ahead, Swaps, Rising, Inside}
+use Rattle.dicuts.specs.Crossing.{taken, added, Apart-from, Swaps, Rising, Inside}
 use Rattle.dicuts.proofs.Uncross.{swaps-join}
 use Rattle.potentials.specs.Potential.{Parted}
 use Rattle.potentials.specs.ZeroGraph.{Opens, Closes, Swaps-for, zero-arcs}
@@ -150,8 +150,8 @@ module _ (h : Hall) (m : ℕ → Bool) (c p : ℕ → ℕ) (F : ℕ → Bool) wh
       -- a junction below a route is separated from where its swaps lead at the same potential
       below-ahead :
           (a : ℕ) → 1 ≤ a → a ≤ h .n → (x : ℕ) (ls : List Leg) (y : ℕ) → Route h m c p F dist x ls y → dist a < dist x →
-          Ahead (Sep h (once F)) p a (swaps-of x ls)
-      unfolding Route Takes end-of swaps-of swap-of Ahead
+          Apart-from (Sep h (once F)) p a (swaps-of x ls)
+      unfolding Route Takes end-of swaps-of swap-of Apart-from
       below-ahead a la ka x [] y r low = tt
       below-ahead a la ka x (by-open g w ∷ ls) y r low = below-ahead a la ka w ls y (r .4) (omega (arith, r .3))
       below-ahead a la ka x (by-close g w ∷ ls) y r low = below-ahead a la ka w ls y (r .4) (omega (arith, r .3))

@@ -13,7 +13,7 @@ use Rattle.hallfile.specs.declared.HallRecord.{HallRecord}
 use Rattle.dicuts.proofs.Choices.{ascends-low, ascends-high, ascends-rest}
 use Rattle.printing.specs.Placed.{text}
 use Rattle.printing.specs.Printed.{hall-word, open-word, total-word, cuts-word, levels-word, refused-word, newline, one, each, number-line, pair-line, row-line, cut-line, level-item, choice-lines, cut-lines, levels-line, printed-plan, printed-refusal}
-use Rattle.printing.specs.Recorded.{hall-of, cuts-of}
+use Rattle.printing.specs.Recorded.{hall-of, paired}
 use Rattle.printing.proofs.Recorded.{hall-count, hall-junctions, cuts-length}
 
 ascends-few : (a l : ℕ) (ns : List ℕ) → a ≤ suc l → ascends-from a l ns ≡ true → a + length ns ≤ suc l
@@ -30,9 +30,9 @@ pub choice-parts : (h : Hall) (c : List ℕ) → choice-lines h c ≡ text (numb
 unfolding choice-lines open-word
 choice-parts h c = refl
 
-pub cut-parts : (n : ℕ) (ss ws : List ℕ) → length ss ≡ length ws → cut-lines n (cuts-of ss ws) ≡ text (number-line (67 ∷ 85 ∷ 84 ∷ 83 ∷ 32 ∷ []) (length ss) ∷ each (cut-line n) (cuts-of ss ws) ∷ [])
+pub cut-parts : (n : ℕ) (ss ws : List ℕ) → length ss ≡ length ws → cut-lines n (paired ss ws) ≡ text (number-line (67 ∷ 85 ∷ 84 ∷ 83 ∷ 32 ∷ []) (length ss) ∷ each (cut-line n) (paired ss ws) ∷ [])
 unfolding cut-lines cuts-word
-cut-parts n ss ws e = ap (λ (k : ℕ). text (number-line (67 ∷ 85 ∷ 84 ∷ 83 ∷ 32 ∷ []) k ∷ each (cut-line n) (cuts-of ss ws) ∷ [])) (cuts-length ss ws e)
+cut-parts n ss ws e = ap (λ (k : ℕ). text (number-line (67 ∷ 85 ∷ 84 ∷ 83 ∷ 32 ∷ []) k ∷ each (cut-line n) (paired ss ws) ∷ [])) (cuts-length ss ws e)
 
 pub level-parts : (ls : List ℤ) → levels-line ls ≡ text ((76 ∷ 69 ∷ 86 ∷ 69 ∷ 76 ∷ 83 ∷ []) ∷ each level-item ls ∷ one newline ∷ [])
 unfolding levels-line levels-word

@@ -14,7 +14,7 @@ use Rattle.hallfile.specs.Record.{record-of}
 use Rattle.hallfile.proofs.Records.{record-columns, record-prices}
 use Rattle.choice.proofs.Ascent.{ascends-at}
 use Rattle.printing.specs.Printed.{four-line, row-line}
-use Rattle.printing.specs.Recorded.{rows-from, hall-of, cuts-of}
+use Rattle.printing.specs.Recorded.{rows-from, hall-of, paired}
 
 rows-length : (t h p : List ℕ) (i k : ℕ) → length (rows-from t h p i k) ≡ k
 unfolding rows-from
@@ -55,14 +55,14 @@ module _ (r : HallRecord) where
   unfolding is-choice
   choice-at ns k e l = let w = ascends-at 1 (count (hall-of r)) ns k e l in (w .0, omega (arith, w .1, hall-count))
 
-pub cuts-length : (ss ws : List ℕ) → length ss ≡ length ws → length (cuts-of ss ws) ≡ length ss
-unfolding cuts-of
+pub cuts-length : (ss ws : List ℕ) → length ss ≡ length ws → length (paired ss ws) ≡ length ss
+unfolding paired
 cuts-length [] ws e = refl
 cuts-length (s ∷ ss) [] e = absurd (omega arith)
 cuts-length (s ∷ ss) (w ∷ ws) e = ap suc (cuts-length ss ws (omega arith))
 
-pub cuts-at : (ss ws : List ℕ) (d : Cut) (i : ℕ) → length ss ≡ length ws → i < length ss → getD (cuts-of ss ws) i d ≡ cut (getD ss i 0) (getD ws i 0)
-unfolding cuts-of
+pub cuts-at : (ss ws : List ℕ) (d : Cut) (i : ℕ) → length ss ≡ length ws → i < length ss → getD (paired ss ws) i d ≡ cut (getD ss i 0) (getD ws i 0)
+unfolding paired
 cuts-at [] ws d i e l = absurd (omega arith)
 cuts-at (s ∷ ss) [] d i e l = absurd (omega arith)
 cuts-at (s ∷ ss) (w ∷ ws) d zero e l = refl

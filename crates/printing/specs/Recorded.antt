@@ -19,10 +19,10 @@ unfoldable pub hall-of : HallRecord → Hall
 hall-of r = hall (r .n) (rows-from (r .tails) (r .heads) (r .prices) 0 (r .count))
 
 -- THE CUTS of a list of shores and a list of weights
-unfoldable pub cuts-of : (shores weights : List ℕ) → List Cut
-cuts-of [] ws = []
-cuts-of (s ∷ ss) [] = []
-cuts-of (s ∷ ss) (w ∷ ws) = cut s w ∷ cuts-of ss ws
+unfoldable pub paired : (shores weights : List ℕ) → List Cut
+paired [] ws = []
+paired (s ∷ ss) [] = []
+paired (s ∷ ss) (w ∷ ws) = cut s w ∷ paired ss ws
 
 -- PRINTABLE: a hall, a choice of its rows, and as many shores as weights, within the limits
 pub record Printable (r : HallRecord) (rows shores weights : List ℕ) (levels : List ℤ) : Type 0 where

@@ -10,7 +10,7 @@ ghost use Rattle.hall.specs.File.{refusal};
 ghost use Rattle.hall.specs.Plan.{cut};
 ghost use Rattle.printing.specs.Placed.{Put, In-front};
 ghost use Rattle.printing.specs.Printed.{decimal, item, each, number-line, pair-line, four-line, row-line, set-text, cut-line, level-item, choice-lines, cut-lines, levels-line, printed-plan, printed-refusal};
-ghost use Rattle.printing.specs.Recorded.{hall-of, cuts-of, Printable};
+ghost use Rattle.printing.specs.Recorded.{hall-of, paired, Printable};
 ghost use Rattle.refusals.specs.Kinds.{refusal-of};
 use hallfile::HallRecord;
 use junctions::Junctions;
@@ -172,7 +172,7 @@ fn put_rows(out: &mut [u8], at: usize, hall: HallRecord, rows: &[u32]) -> usize
 fn put_cuts(out: &mut [u8], at: usize, n: usize, shores: &[u64], weights: &[u32]) -> usize
     requires { ⌜ (n ≤ 64) × (length (now shores) ≡ length (now weights)) ⌝ }
     requires { ⌜ at + 203 * length (now shores) ≤ length (now out) ⌝ }
-    ensures { λ r. ⌜ Put (each (cut-line n) (cuts-of (now (shores .entry)) (now (weights .entry)))) at (now (out .entry)) (now (out .exit)) r ⌝ }
+    ensures { λ r. ⌜ Put (each (cut-line n) (paired (now (shores .entry)) (now (weights .entry)))) at (now (out .entry)) (now (out .exit)) r ⌝ }
     ensures { λ r. ⌜ r ≤ at + 203 * length (now (shores .entry)) ⌝ }
 {
     let mut end = at;
@@ -214,7 +214,7 @@ fn put_choice(out: &mut [u8], at: usize, hall: HallRecord, rows: &[u32]) -> usiz
 fn put_cut_list(out: &mut [u8], at: usize, n: usize, shores: &[u64], weights: &[u32]) -> usize
     requires { ⌜ (n ≤ 64) × (length (now shores) ≡ length (now weights)) ⌝ }
     requires { ⌜ at + 26 + 203 * length (now shores) ≤ length (now out) ⌝ }
-    ensures { λ r. ⌜ Put (cut-lines n (cuts-of (now (shores .entry)) (now (weights .entry)))) at (now (out .entry)) (now (out .exit)) r ⌝ }
+    ensures { λ r. ⌜ Put (cut-lines n (paired (now (shores .entry)) (now (weights .entry)))) at (now (out .entry)) (now (out .exit)) r ⌝ }
     ensures { λ r. ⌜ r ≤ at + 26 + 203 * length (now (shores .entry)) ⌝ }
 {
     let first = put_number_line(out, at, b"CUTS ", shores.len());
@@ -242,7 +242,7 @@ pub fn print_plan(
 ) -> usize
     requires { ⌜ Printable hall (now rows) (now shores) (now weights) (now levels) ⌝ }
     requires { ⌜ 65536 ≤ length (now out) ⌝ }
-    ensures { λ r. ⌜ In-front (printed-plan (hall-of hall) (now (rows .entry)) total (cuts-of (now (shores .entry)) (now (weights .entry))) (now (levels .entry))) (now (out .entry)) (now (out .exit)) r ⌝ }
+    ensures { λ r. ⌜ In-front (printed-plan (hall-of hall) (now (rows .entry)) total (paired (now (shores .entry)) (now (weights .entry))) (now (levels .entry))) (now (out .entry)) (now (out .exit)) r ⌝ }
 {
     let n = hall.n;
     let opened = put_pair_line(out, 0, b"HALL ", n, hall.count);

@@ -10,6 +10,7 @@ use lib.Dec.{eqb}
 use lib.ListN.{length, getD, set}
 use lib.Seq.{getD-set-same, getD-set-other, set-set, set-getD}
 use borrow.Author.Tests.{eqb-true, eqb-false}
+use Rattle.laws.specs.Lists.{at}
 use Rattle.laws.proofs.Booleans.{by-bool, clash, and-l, and-r, and-i, or-l, or-r, or-cases}
 use Rattle.laws.proofs.Finite.{any-found, any-intro}
 use Rattle.junctions.specs.Sets.{holds, Within}
@@ -17,7 +18,6 @@ use Rattle.junctions.proofs.Bounds.{junction-le}
 use Rattle.junctions.proofs.Bits.{one-shl}
 use Rattle.junctions.proofs.Sets.{less-holds, gather-lt, gather-holds}
 use Rattle.junctions.proofs.Single.{one-lt, one-self}
-use Rattle.digraph.specs.Adjacency.{out-of}
 use Rattle.digraph.specs.Reach.{Closed}
 use Rattle.digraph.specs.Closure.{closure}
 use Rattle.digraph.proofs.Closure.{closure-lt, closure-reach}
@@ -27,10 +27,10 @@ use Rattle.dicuts.specs.Shores.{Ranged, once, Joining}
 use Rattle.joining.proofs.Joining.{joining-mono}
 use Rattle.neighbours.specs.Removal.{without, Spared}
 use Rattle.neighbours.proofs.Removal.{drop-joins}
-use Rattle.columns.specs.Columns.{at, flagged, Ends, Columns, Arcs}
+use Rattle.columns.specs.Columns.{flagged, Ends, Columns, Arcs}
 use Rattle.columns.proofs.Places.{place-tail, place-head}
 use Rattle.adjacency.proofs.Arcs.{arcs-ext}
-use Rattle.pruning.specs.Backed.{Backed, Under}
+use Rattle.pruning.specs.Backed.{Backed, Arcs-among}
 use Rattle.pruning.specs.Start.{Among}
 
 -- the ends of a row are junctions 1 to 64
@@ -142,9 +142,9 @@ module _ (fs : List Bool) (k : ℕ) where
 
     -- without the row's own arc, or with it where it is backed, the sets stay under the rows that are left
     pub under-drop :
-        (sets : List ℕ) (p r : ℕ) → length sets ≡ 64 → p < 64 → suc p ≡ to → Under h F sets →
-        ((y : ℕ) → 1 ≤ y → holds r y ≡ true → (holds (getD sets p 0) y ≡ true) × (y ≡ from → Backed h G (suc k))) → Under h G (set sets p r)
-    unfolding Under Within Backed
+        (sets : List ℕ) (p r : ℕ) → length sets ≡ 64 → p < 64 → suc p ≡ to → Arcs-among h F sets →
+        ((y : ℕ) → 1 ≤ y → holds r y ≡ true → (holds (getD sets p 0) y ≡ true) × (y ≡ from → Backed h G (suc k))) → Arcs-among h G (set sets p r)
+    unfolding Arcs-among Within Backed
     under-drop sets p r size small place under spare x l u y m e =
         by-bool (eqb x to)
         (λ q.
@@ -177,15 +177,15 @@ module _ (fs : List Bool) (k : ℕ) where
     spared-is = closure-reach (h .n) (arcs h (without F (suc k))) (2 ^ (to - 1)) (one-lt (h .n) to to-low to-high) (λ j l u. gather-lt (h .n) (arc h (without F (suc k)) j))
 
     -- it is closed for sets under the rows that are left
-    spared-closed : (sets : List ℕ) → Under h G sets → Closed 64 (out-of sets) spared
-    unfolding Under Closed Within spared
+    spared-closed : (sets : List ℕ) → Arcs-among h G sets → Closed 64 (at sets) spared
+    unfolding Arcs-among Closed Within spared
     spared-closed sets under j l u e y m has =
         let high : j ≤ h .n = junction-le (h .n) spared j (closure-lt (h .n) (arcs h (without F (suc k))) (2 ^ (to - 1)) (one-lt (h .n) to to-low to-high)) e in
         spared-is .closed j l high e y m
         (ap (λ (z : ℕ). holds z y) (sym (arcs-ext h G (without F (suc k)) (λ i p q. taken-out i p) j)) ∙ under j l high y m has)
 
     pub dropped-joins :
-        (sets : List ℕ) → Under h G sets → ((t : ℕ) → holds t to ≡ true → Closed 64 (out-of sets) t → holds t from ≡ true) →
+        (sets : List ℕ) → Arcs-among h G sets → ((t : ℕ) → holds t to ≡ true → Closed 64 (at sets) t → holds t from ≡ true) →
         Joining h (once F) → Joining h (once G)
     unfolding without Within
     dropped-joins sets under leads joining =
@@ -246,10 +246,10 @@ cleared found tail y small low e =
 
 -- rows that join, and sets under them
 abbrev pub Thinned : Hall → (fs : List Bool) → (sets : List ℕ) → Type 0
-Thinned h fs sets = Joining h (once (flagged fs)) × Under h (flagged fs) sets
+Thinned h fs sets = Joining h (once (flagged fs)) × Arcs-among h (flagged fs) sets
 
 pub thinned-start : (h : Hall) (fs : List Bool) (sets : List ℕ) → Joining h (once (flagged fs)) → Arcs h (flagged fs) sets → Thinned h fs sets
-unfolding Arcs Under Within
+unfolding Arcs Arcs-among Within
 thinned-start h fs sets joins is = (joins, λ x l u. subst (λ (z : ℕ). Within (at sets x) z) (is x l u) (λ y m e. e))
 
 -- one turn: row k, its ends at places p and q, is dropped, or gets its arc back
@@ -263,7 +263,7 @@ module _ (fs : List Bool) (k : ℕ) (h : Hall) (rg : Ranged h) (n m : ℕ) (ts h
 
   pub turn-dropped :
       ((y : ℕ) → 1 ≤ y → holds r y ≡ true → (holds (getD sets p 0) y ≡ true) × (y ≡ suc q → Backed h (flagged (set fs k false)) (suc k))) →
-      ((t : ℕ) → holds t (p + 1) ≡ true → Closed 64 (out-of (set sets p r)) t → holds t (q + 1) ≡ true) → Thinned h (set fs k false) (set sets p r)
+      ((t : ℕ) → holds t (p + 1) ≡ true → Closed 64 (at (set sets p r)) t → holds t (q + 1) ≡ true) → Thinned h (set fs k false) (set sets p r)
   turn-dropped spare leads =
       let to-place : p + 1 ≡ row h (suc k) .to = omega (arith, p-to) in
       let from-place : q + 1 ≡ row h (suc k) .from = omega (arith, q-from) in

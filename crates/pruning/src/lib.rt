@@ -4,8 +4,8 @@ use junctions::place;
 ghost use mathlib.Core.Path.{_≡_};
 ghost use mathlib.Core.Bool.{true};
 ghost use Prim.Native.Nat.{ℕ, suc, _≤_, _<_};
+ghost use Rattle.laws.specs.Lists.{at};
 ghost use Rattle.junctions.specs.Sets.{holds};
-ghost use Rattle.digraph.specs.Adjacency.{out-of};
 ghost use Rattle.digraph.specs.Reach.{Closed};
 ghost use Rattle.hall.specs.Hall.{Hall};
 ghost use Rattle.dicuts.specs.Shores.{Ranged, once, Joining};
@@ -18,7 +18,7 @@ mod dearest;
 // Whether the target is reached from the start.
 fn leads(arcs: &[u64; 64], start: usize, target: usize) -> bool
     requires { ⌜ (1 ≤ start) × (start ≤ 64) × (1 ≤ target) × (target ≤ 64) ⌝ }
-    ensures { λ r. ⌜ (r ≡ true → (t : ℕ) → holds t start ≡ true → Closed 64 (out-of (now (arcs .entry))) t → holds t target ≡ true) ⌝ }
+    ensures { λ r. ⌜ (r ≡ true → (t : ℕ) → holds t start ≡ true → Closed 64 (at (now (arcs .entry))) t → holds t target ≡ true) ⌝ }
 {
     let mut reached: u64 = 1 << (start - 1);
     let mut todo = reached;

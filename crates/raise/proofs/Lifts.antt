@@ -7,8 +7,8 @@ use native.Mathlib.Omega.{arith}
 use lib.ListN.{getD, length, set, length-set}
 use lib.Seq.{getD-set-same, getD-set-other}
 use borrow.Author.Count.{below-more}
+use Rattle.laws.specs.Lists.{at}
 use Rattle.junctions.specs.Sets.{holds}
-use Rattle.columns.specs.Columns.{at}
 use Rattle.potentials.specs.ZeroGraph.{raised}
 
 -- the first k places are raised

@@ -4,12 +4,13 @@ use mathlib.Core.Bool.{Bool, true}
 use mathlib.Core.List.{List}
 use Prim.Native.Nat.{ℕ, _≤_}
 use native.Mathlib.Omega.{arith}
+use Rattle.laws.specs.Lists.{at}
 use Rattle.junctions.specs.Sets.{holds}
 use Rattle.junctions.proofs.Bounds.{junction-le}
 use Rattle.hall.specs.Hall.{Hall, count}
 use Rattle.dicuts.specs.Shores.{around, once}
 use Rattle.dicuts.proofs.Shores.{around-lt}
-use Rattle.columns.specs.Columns.{at, Neighbourhoods}
+use Rattle.columns.specs.Columns.{Neighbourhoods}
 use Rattle.potentials.specs.Potential.{gap}
 use Rattle.potentials.specs.ZeroGraph.{Under-on}
 use Rattle.potentials.proofs.Raise.{near-rises, row-bound, near-bound}

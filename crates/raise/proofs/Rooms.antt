@@ -11,13 +11,14 @@ use lib.Count.{trailingZeros}
 use lib.Dec.{eqb}
 use lib.ListN.{getD}
 use borrow.Author.Tests.{eqb-true, eq-eqb, not-true}
+use Rattle.laws.specs.Lists.{at}
 use Rattle.laws.proofs.Booleans.{by-bool, clash, and-l, and-r, and-i}
 use Rattle.laws.proofs.Connectives.{and-false-l, and-false-r}
 use Rattle.laws.proofs.Finite.{last-or-below}
 use Rattle.junctions.specs.Sets.{holds, Within}
 use Rattle.junctions.proofs.Sets.{none-holds, less-holds}
 use Rattle.hall.specs.Hall.{Hall, row}
-use Rattle.columns.specs.Columns.{at, flagged, Columns}
+use Rattle.columns.specs.Columns.{flagged, Columns}
 use Rattle.potentials.specs.Potential.{gap}
 use Rattle.raise.specs.Rooms.{Most, Rows-allow, Over-set}
 use Rattle.junctions.proofs.Taking.{low-in, left-holds}

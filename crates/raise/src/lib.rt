@@ -7,9 +7,10 @@ ghost use mathlib.Core.Path.{_≡_};
 ghost use mathlib.Core.Bool.{Bool, cond};
 ghost use Prim.Native.Nat.{ℕ, suc, _+_, _-_, _^_, _≤_, _<_, min};
 ghost use lib.ListN.{getD};
+ghost use Rattle.laws.specs.Lists.{at};
 ghost use Rattle.hall.specs.Hall.{Hall};
 ghost use Rattle.potentials.specs.ZeroGraph.{raised};
-ghost use Rattle.columns.specs.Columns.{at, flagged, Ends, Columns, Neighbourhoods};
+ghost use Rattle.columns.specs.Columns.{flagged, Ends, Columns, Neighbourhoods};
 ghost use Rattle.zerograph.specs.Low.{Low};
 ghost use Rattle.raise.specs.Rooms.{Most, Rows-allow, Over-set, Near-allow, Room, Raised-for};
 
@@ -28,7 +29,7 @@ pub fn narrow(room: u64, counts: bool, high: u64, low: u64) -> u64
 
 // The most, up to the room, by which the movable rows that enter the set allow a raise on it.
 pub fn row_room<'a>(
-    count: usize,
+    m: usize,
     tails: &'a [u8; 256],
     heads: &'a [u8; 256],
     costs: &'a [u64; 256],
@@ -37,13 +38,13 @@ pub fn row_room<'a>(
     set: u64,
     start: u64,
 ) -> u64
-    requires { ⌜ Ends 64 count (now tails) (now heads) × Low (now costs) × Low (now potential) ⌝ }
-    ensures { λ r. ⌜ (r ≤ start) × ((h : Hall) (n : ℕ) → Columns h n count (now (tails .entry)) (now (heads .entry)) →
-        Most (λ e. (e ≤ start) × Rows-allow h (flagged (now (movable .entry))) (at (now (costs .entry))) (at (now (potential .entry))) set count e) r) ⌝ }
+    requires { ⌜ Ends 64 m (now tails) (now heads) × Low (now costs) × Low (now potential) ⌝ }
+    ensures { λ r. ⌜ (r ≤ start) × ((h : Hall) (n : ℕ) → Columns h n m (now (tails .entry)) (now (heads .entry)) →
+        Most (λ e. (e ≤ start) × Rows-allow h (flagged (now (movable .entry))) (at (now (costs .entry))) (at (now (potential .entry))) set m e) r) ⌝ }
 {
     let mut room = start;
     let mut k: usize = 0;
-    while k < count {
+    while k < m {
         let tail = place(tails[k]);
         let head = place(heads[k]);
         let out = has(set, tail);
@@ -90,7 +91,7 @@ pub fn near_room<'a>(around: &'a [u64; 64], potential: &'a [u64; 64], set: u64, 
 
 // The most, up to the room, by which the potential can be raised on the set.
 pub fn raise_room<'a>(
-    count: usize,
+    m: usize,
     tails: &'a [u8; 256],
     heads: &'a [u8; 256],
     costs: &'a [u64; 256],
@@ -100,12 +101,12 @@ pub fn raise_room<'a>(
     set: u64,
     start: u64,
 ) -> u64
-    requires { ⌜ Ends 64 count (now tails) (now heads) × Low (now costs) × Low (now potential) ⌝ }
-    ensures { λ r. ⌜ (r ≤ start) × ((h : Hall) (n : ℕ) (F : ℕ → Bool) → Columns h n count (now (tails .entry)) (now (heads .entry)) →
+    requires { ⌜ Ends 64 m (now tails) (now heads) × Low (now costs) × Low (now potential) ⌝ }
+    ensures { λ r. ⌜ (r ≤ start) × ((h : Hall) (n : ℕ) (F : ℕ → Bool) → Columns h n m (now (tails .entry)) (now (heads .entry)) →
         Neighbourhoods h F (now (around .entry)) →
         Room h (flagged (now (movable .entry))) (at (now (costs .entry))) (at (now (potential .entry))) F set start r) ⌝ }
 {
-    let room = row_room(count, tails, heads, costs, movable, potential, set, start);
+    let room = row_room(m, tails, heads, costs, movable, potential, set, start);
     near_room(around, potential, set, room)
 }
 
@@ -134,7 +135,7 @@ pub fn raise(potential: &[u64; 64], set: u64, by: u64) -> [u64; 64]
 
 // The potential raised on the set as far as it can be, up to the gap of the row at a place.
 pub fn raise_for<'a>(
-    count: usize,
+    m: usize,
     tails: &'a [u8; 256],
     heads: &'a [u8; 256],
     costs: &'a [u64; 256],
@@ -144,8 +145,8 @@ pub fn raise_for<'a>(
     set: u64,
     row: usize,
 ) -> [u64; 64]
-    requires { ⌜ Ends 64 count (now tails) (now heads) × Low (now costs) × Low (now potential) × (row < count) ⌝ }
-    ensures { λ r. ⌜ ((h : Hall) (n : ℕ) (F : ℕ → Bool) → Columns h n count (now (tails .entry)) (now (heads .entry)) →
+    requires { ⌜ Ends 64 m (now tails) (now heads) × Low (now costs) × Low (now potential) × (row < m) ⌝ }
+    ensures { λ r. ⌜ ((h : Hall) (n : ℕ) (F : ℕ → Bool) → Columns h n m (now (tails .entry)) (now (heads .entry)) →
         Neighbourhoods h F (now (around .entry)) →
         Raised-for h (flagged (now (movable .entry))) (at (now (costs .entry))) (at (now (potential .entry))) F set (suc row) (at r)) ⌝ }
 {
@@ -154,7 +155,7 @@ pub fn raise_for<'a>(
     let high = potential[tail] + costs[row];
     let gap = narrow(high, true, high, potential[head]);
     let room = raise_room(
-        count,
+        m,
         tails,
         heads,
         costs,

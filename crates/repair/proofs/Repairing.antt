@@ -7,23 +7,24 @@ use native.Mathlib.Omega.{arith}
 use lib.Dec.{ltb}
 use lib.ListN.{getD, length, replicate, getD-replicate, List·getD-eq-default}
 use borrow.Author.Tests.{ltb-true, ltb-false}
+use Rattle.laws.specs.Lists.{at}
 use Rattle.laws.specs.Finite.{sum-below}
 use Rattle.laws.proofs.Booleans.{by-bool, clash, and-i}
 use Rattle.laws.proofs.Finite.{sum-ext}
 use Rattle.hall.specs.Hall.{Hall, row, count}
-use Rattle.columns.specs.Columns.{at, flagged, Columns, Neighbourhoods}
+use Rattle.columns.specs.Columns.{flagged, Columns, Neighbourhoods}
 use Rattle.potentials.specs.Potential.{Paid, gap, slack}
 use Rattle.potentials.specs.Repair.{Repairable}
 use Rattle.zerograph.specs.Low.{Low}
 use Rattle.zerograph.proofs.Rows.{chosen-here, cost-here, tail-level, head-level}
-use Rattle.repair.specs.Repairs.{short, First-short, Some-short, Free, Stepped, Repair-start, Repair-end}
+use Rattle.repair.specs.Repairs.{unpaid, First-unpaid, Some-unpaid, Free, Stepped, Repair-start, Repair-end}
 
 -- the test for a gap, from the columns
 pub short-here :
     (h : Hall) (n m : ℕ) (tails heads costs : List ℕ) (chosen : List Bool) (potential : List ℕ) (cols : Columns h n m tails heads) (k a b : ℕ) → k < m →
     suc a ≡ getD tails k 0 → suc b ≡ getD heads k 0 →
-    (getD chosen k false && ltb (getD potential b 0) (getD potential a 0 + getD costs k 0)) ≡ short h (at costs) (at potential) (flagged chosen) (suc k)
-unfolding short
+    (getD chosen k false && ltb (getD potential b 0) (getD potential a 0 + getD costs k 0)) ≡ unpaid h (at costs) (at potential) (flagged chosen) (suc k)
+unfolding unpaid
 short-here h n m tails heads costs chosen potential cols k a b less tail-is head-is =
     rw (
       chosen-here h n m tails heads costs chosen chosen potential cols k a b less tail-is head-is,
@@ -61,7 +62,7 @@ pub all-set : (k : ℕ) → k < 256 → getD (replicate 256 true) k false ≡ tr
 all-set k less = getD-replicate 256 k true false less
 
 -- the first from place 0 on is one
-pub first-some : (h : Hall) (c p : ℕ → ℕ) (F : ℕ → Bool) (m r : ℕ) → First-short h c p F 0 m r → Some-short h c p F m r
+pub first-some : (h : Hall) (c p : ℕ → ℕ) (F : ℕ → Bool) (m r : ℕ) → First-unpaid h c p F 0 m r → Some-unpaid h c p F m r
 first-some h c p F m r first = record { here = first .here; none = λ done k l. first .earlier k (omega arith) (omega arith) }
 
 -- what repair keeps, with the place of a row that has a gap
@@ -69,16 +70,16 @@ pub record Kept (h : Hall) (c p q : ℕ → ℕ) (F G : ℕ → Bool) (near : Li
   pub repairable : Repairable h c q G
   pub around : Neighbourhoods h G near
   pub bound : (j : ℕ) → 1 ≤ j → j ≤ 64 → q j + slack h c q G ≤ p j + slack h c p F
-  pub next : Some-short h c q G m k
+  pub next : Some-unpaid h c q G m k
 
 module _ (h : Hall) (c p : ℕ → ℕ) (F : ℕ → Bool) (m : ℕ) where
   pub kept-start :
-      (near : List ℕ) (k : ℕ) → Repairable h c p F → Neighbourhoods h F near → Some-short h c p F m k → Kept h c p p F F near m k
+      (near : List ℕ) (k : ℕ) → Repairable h c p F → Neighbourhoods h F near → Some-unpaid h c p F m k → Kept h c p p F F near m k
   kept-start near k start around next = record { repairable = start; around = around; bound = λ j l u. omega arith; next = next }
 
   module _ (q : ℕ → ℕ) (G : ℕ → Bool) (near : List ℕ) (k : ℕ) (kept : Kept h c p q F G near m k) where
     pub kept-more :
-        (s : ℕ → ℕ) (H : ℕ → Bool) (nears : List ℕ) (i : ℕ) → Stepped h c q s G H nears → Some-short h c s H m i →
+        (s : ℕ → ℕ) (H : ℕ → Bool) (nears : List ℕ) (i : ℕ) → Stepped h c q s G H nears → Some-unpaid h c s H m i →
         Kept h c p s F H nears m i
     kept-more s H nears i step next =
         record {
@@ -90,7 +91,7 @@ module _ (h : Hall) (c p : ℕ → ℕ) (F : ℕ → Bool) (m : ℕ) where
 
     -- where no row has a gap, P2 holds
     all-paid : count h ≡ m → m ≤ k → (i : ℕ) → 1 ≤ i → i ≤ count h → G i ≡ true → q (row h i .from) + c i ≤ q (row h i .to)
-    unfolding short
+    unfolding unpaid
     all-paid rows done zero l u t = absurd (omega arith)
     all-paid rows done (suc i) l u t =
         let test : Bool = ltb (q (row h (suc i) .to)) (q (row h (suc i) .from) + c (suc i)) in

@@ -7,9 +7,9 @@ use native.Mathlib.Omega.{arith}
 use lib.Dec.{ltb}
 use lib.Pow.{pow-lt}
 use borrow.Author.Tests.{ltb-true}
+use Rattle.laws.specs.Lists.{at}
 use Rattle.laws.proofs.Booleans.{and-l, and-r}
 use Rattle.junctions.specs.Sets.{holds}
-use Rattle.digraph.specs.Adjacency.{out-of}
 use Rattle.digraph.specs.Reach.{Closed, Reach}
 use Rattle.digraph.proofs.Closure.{reach-narrow, reach-narrow-lt}
 use Rattle.digraph.proofs.Same.{closed-same}
@@ -27,33 +27,33 @@ use Rattle.potentials.proofs.Slack.{slack-raised, raised-bound, slack-flipped}
 use Rattle.zerograph.specs.Zero.{Zero-graph}
 use Rattle.raise.specs.Rooms.{Room, Raised-for}
 use Rattle.flip.specs.Flips.{turning}
-use Rattle.repair.specs.Repairs.{short, Free, Stepped}
+use Rattle.repair.specs.Repairs.{unpaid, Free, Stepped}
 
 module _ (h : Hall) (m : ℕ → Bool) (c p : ℕ → ℕ) (F : ℕ → Bool) where
   -- what is reached in the zero graph
   module _ (graph : List ℕ) (start reached : ℕ) (small : h .n ≤ 64) (low : 1 ≤ start) (high : start ≤ h .n) (is : Zero-graph h m c p F graph)
-      (reach : Reach 64 (out-of graph) (2 ^ (start - 1)) reached) where
+      (reach : Reach 64 (at graph) (2 ^ (start - 1)) reached) where
     few : 2 ^ (start - 1) < 2 ^ h .n
     few = pow-lt {i = start - 1} {j = h .n} (omega arith)
 
-    ranged : (j : ℕ) → 1 ≤ j → j ≤ h .n → out-of graph j < 2 ^ h .n
+    ranged : (j : ℕ) → 1 ≤ j → j ≤ h .n → at graph j < 2 ^ h .n
     ranged j l u = subst (λ (s : ℕ). s < 2 ^ h .n) (sym (is .inside j l u)) (zero-arcs-lt h m c p F j)
 
     pub reached-lt : reached < 2 ^ h .n
-    reached-lt = reach-narrow-lt (h .n) (out-of graph) (2 ^ (start - 1)) reached small few ranged reach
+    reached-lt = reach-narrow-lt (h .n) (at graph) (2 ^ (start - 1)) reached small few ranged reach
 
     pub reached-closed : Closed (h .n) (zero-arcs h m c p F) reached
     reached-closed =
-        closed-same (h .n) (out-of graph) (zero-arcs h m c p F) (is .inside) reached
-        (reach-narrow (h .n) (out-of graph) (2 ^ (start - 1)) reached small few ranged reach .closed)
+        closed-same (h .n) (at graph) (zero-arcs h m c p F) (is .inside) reached
+        (reach-narrow (h .n) (at graph) (2 ^ (start - 1)) reached small few ranged reach .closed)
 
-  module _ (rg : Ranged h) (free : Free h m) (start : Repairable h c p F) (i : ℕ) (l : 1 ≤ i) (u : i ≤ count h) (at-row : short h c p F i ≡ true) where
+  module _ (rg : Ranged h) (free : Free h m) (start : Repairable h c p F) (i : ℕ) (l : 1 ≤ i) (u : i ≤ count h) (at-row : unpaid h c p F i ≡ true) where
     row-chosen : F i ≡ true
-    unfolding short
+    unfolding unpaid
     row-chosen = and-l (F i) (ltb (p (row h i .to)) (p (row h i .from) + c i)) at-row
 
     row-gap : p (row h i .to) < p (row h i .from) + c i
-    unfolding short
+    unfolding unpaid
     row-gap = ltb-true (p (row h i .to)) (p (row h i .from) + c i) (and-r (F i) (ltb (p (row h i .to)) (p (row h i .from) + c i)) at-row)
 
     under-movable : Under-on h m c p

@@ -4,25 +4,26 @@ use mathlib.Core.Bool.{Bool, true, false, _&&_}
 use mathlib.Core.List.{List}
 use Prim.Native.Nat.{ℕ, suc, _+_, _^_, _≤_, _<_}
 use lib.Dec.{ltb}
+use Rattle.laws.specs.Lists.{at}
 use Rattle.hall.specs.Hall.{Hall, row, count}
 use Rattle.dicuts.specs.Shores.{Ranged}
-use Rattle.columns.specs.Columns.{at, flagged, Columns, Neighbourhoods}
+use Rattle.columns.specs.Columns.{flagged, Columns, Neighbourhoods}
 use Rattle.potentials.specs.Potential.{slack}
 use Rattle.potentials.specs.Repair.{Repairable, Repaired}
 
 -- row i is chosen and has a gap
-unfoldable pub short : Hall → (c p : ℕ → ℕ) → (F : ℕ → Bool) → (i : ℕ) → Bool
-short h c p F i = F i && ltb (p (row h i .to)) (p (row h i .from) + c i)
+unfoldable pub unpaid : Hall → (c p : ℕ → ℕ) → (F : ℕ → Bool) → (i : ℕ) → Bool
+unpaid h c p F i = F i && ltb (p (row h i .to)) (p (row h i .from) + c i)
 
 -- place r is the first from place a on whose row is chosen and has a gap; where r is not below m, no row from a to m has one
-pub record First-short (h : Hall) (c p : ℕ → ℕ) (F : ℕ → Bool) (a m r : ℕ) : Type 0 where
-  pub here : r < m → short h c p F (suc r) ≡ true
-  pub earlier : (k : ℕ) → a ≤ k → k < r → short h c p F (suc k) ≡ false
+pub record First-unpaid (h : Hall) (c p : ℕ → ℕ) (F : ℕ → Bool) (a m r : ℕ) : Type 0 where
+  pub here : r < m → unpaid h c p F (suc r) ≡ true
+  pub earlier : (k : ℕ) → a ≤ k → k < r → unpaid h c p F (suc k) ≡ false
 
 -- the row at place r is chosen and has a gap; where r is not below m, no row has one
-pub record Some-short (h : Hall) (c p : ℕ → ℕ) (F : ℕ → Bool) (m r : ℕ) : Type 0 where
-  pub here : r < m → short h c p F (suc r) ≡ true
-  pub none : m ≤ r → (k : ℕ) → k < m → short h c p F (suc k) ≡ false
+pub record Some-unpaid (h : Hall) (c p : ℕ → ℕ) (F : ℕ → Bool) (m r : ℕ) : Type 0 where
+  pub here : r < m → unpaid h c p F (suc r) ≡ true
+  pub none : m ≤ r → (k : ℕ) → k < m → unpaid h c p F (suc k) ≡ false
 
 -- every row of the hall is movable
 abbrev pub Free : Hall → (movable : ℕ → Bool) → Type 0

@@ -10,12 +10,13 @@ ghost use mathlib.Core.Path.{_≡_};
 ghost use mathlib.Core.Bool.{true};
 ghost use Prim.Native.Nat.{ℕ, suc, _<_};
 ghost use lib.ListN.{length};
+ghost use Rattle.laws.specs.Lists.{at};
 ghost use Rattle.hall.specs.Hall.{Hall};
 ghost use Rattle.dicuts.specs.Shores.{Ranged};
 ghost use Rattle.potentials.specs.Repair.{Repairable};
-ghost use Rattle.columns.specs.Columns.{at, flagged, Ends, Columns, Neighbourhoods};
+ghost use Rattle.columns.specs.Columns.{flagged, Ends, Columns, Neighbourhoods};
 ghost use Rattle.zerograph.specs.Low.{Low};
-ghost use Rattle.repair.specs.Repairs.{short, First-short, Some-short, Free, Stepped, Repair-start, Repair-end};
+ghost use Rattle.repair.specs.Repairs.{unpaid, First-unpaid, Some-unpaid, Free, Stepped, Repair-start, Repair-end};
 
 // A choice with its tight neighbourhoods, and a potential.
 pub struct State {
@@ -24,9 +25,9 @@ pub struct State {
     pub around: [u64; 64],
 }
 
-// The place of the first chosen row with a gap, from a place on, or the count where there is none.
+// The place of the first chosen row with a gap, from a place on, or m where there is none.
 pub fn unpaid<'a>(
-    count: usize,
+    m: usize,
     tails: &'a [u8; 256],
     heads: &'a [u8; 256],
     costs: &'a [u64; 256],
@@ -34,12 +35,12 @@ pub fn unpaid<'a>(
     potential: &'a [u64; 64],
     from: usize,
 ) -> usize
-    requires { ⌜ Ends 64 count (now tails) (now heads) × Low (now costs) × Low (now potential) ⌝ }
-    ensures { λ r. ⌜ ((h : Hall) (n : ℕ) → Columns h n count (now (tails .entry)) (now (heads .entry)) →
-        First-short h (at (now (costs .entry))) (at (now (potential .entry))) (flagged (now (chosen .entry))) from count r) ⌝ }
+    requires { ⌜ Ends 64 m (now tails) (now heads) × Low (now costs) × Low (now potential) ⌝ }
+    ensures { λ r. ⌜ ((h : Hall) (n : ℕ) → Columns h n m (now (tails .entry)) (now (heads .entry)) →
+        First-unpaid h (at (now (costs .entry))) (at (now (potential .entry))) (flagged (now (chosen .entry))) from m r) ⌝ }
 {
     let mut k: usize = from;
-    while k < count {
+    while k < m {
         let tail = place(tails[k]);
         let head = place(heads[k]);
         if chosen[k] & (potential[head] < potential[tail] + costs[k]) {
@@ -47,12 +48,12 @@ pub fn unpaid<'a>(
         }
         k += 1;
     }
-    count
+    m
 }
 
-// The place of a chosen row with a gap, or the count where there is none: from the last such row on, then from the start.
+// The place of a chosen row with a gap, or m where there is none: from the last such row on, then from the start.
 pub fn next_unpaid<'a>(
-    count: usize,
+    m: usize,
     tails: &'a [u8; 256],
     heads: &'a [u8; 256],
     costs: &'a [u64; 256],
@@ -60,21 +61,21 @@ pub fn next_unpaid<'a>(
     potential: &'a [u64; 64],
     last: usize,
 ) -> usize
-    requires { ⌜ Ends 64 count (now tails) (now heads) × Low (now costs) × Low (now potential) ⌝ }
-    ensures { λ r. ⌜ ((h : Hall) (n : ℕ) → Columns h n count (now (tails .entry)) (now (heads .entry)) →
-        Some-short h (at (now (costs .entry))) (at (now (potential .entry))) (flagged (now (chosen .entry))) count r) ⌝ }
+    requires { ⌜ Ends 64 m (now tails) (now heads) × Low (now costs) × Low (now potential) ⌝ }
+    ensures { λ r. ⌜ ((h : Hall) (n : ℕ) → Columns h n m (now (tails .entry)) (now (heads .entry)) →
+        Some-unpaid h (at (now (costs .entry))) (at (now (potential .entry))) (flagged (now (chosen .entry))) m r) ⌝ }
 {
-    let later = unpaid(count, tails, heads, costs, chosen, potential, last);
-    if later < count {
+    let later = unpaid(m, tails, heads, costs, chosen, potential, last);
+    if later < m {
         return later;
     }
-    unpaid(count, tails, heads, costs, chosen, potential, 0)
+    unpaid(m, tails, heads, costs, chosen, potential, 0)
 }
 
 // One step for the chosen row at a place, which has a gap: a flip that drops it, or a raise.
 pub fn repair_step<'a>(
     n: usize,
-    count: usize,
+    m: usize,
     tails: &'a [u8; 256],
     heads: &'a [u8; 256],
     costs: &'a [u64; 256],
@@ -84,19 +85,19 @@ pub fn repair_step<'a>(
     around: &'a [u64; 64],
     row: usize,
 ) -> State
-    requires { ⌜ Ends n count (now tails) (now heads) × Low (now costs) × Low (now potential) × (row < count)
+    requires { ⌜ Ends n m (now tails) (now heads) × Low (now costs) × Low (now potential) × (row < m)
         × (length (now chosen) ≡ 256) × (length (now potential) ≡ 64) ⌝ }
-    ensures { λ r. ⌜ (length (r .chosen) ≡ 256) × (length (r .potential) ≡ 64) × ((h : Hall) → Columns h n count (now (tails .entry)) (now (heads .entry)) → Ranged h → Free h (flagged (now (movable .entry))) →
+    ensures { λ r. ⌜ (length (r .chosen) ≡ 256) × (length (r .potential) ≡ 64) × ((h : Hall) → Columns h n m (now (tails .entry)) (now (heads .entry)) → Ranged h → Free h (flagged (now (movable .entry))) →
         Repairable h (at (now (costs .entry))) (at (now (potential .entry))) (flagged (now (chosen .entry))) →
         Neighbourhoods h (flagged (now (chosen .entry))) (now (around .entry)) →
-        short h (at (now (costs .entry))) (at (now (potential .entry))) (flagged (now (chosen .entry))) (suc row) ≡ true →
+        unpaid h (at (now (costs .entry))) (at (now (potential .entry))) (flagged (now (chosen .entry))) (suc row) ≡ true →
         Stepped h (at (now (costs .entry))) (at (now (potential .entry))) (at (r .potential)) (flagged (now (chosen .entry))) (flagged (r .chosen)) (r .around)) ⌝ }
 {
     let tail = number(tails[row]);
     let head = number(heads[row]);
     let graph = zero_graph(
         n,
-        count,
+        m,
         tails,
         heads,
         costs,
@@ -109,7 +110,7 @@ pub fn repair_step<'a>(
     if has(reached, tail - 1) {
         let distances = digraph::distances(&graph, head);
         let next = flip(
-            count,
+            m,
             tails,
             heads,
             costs,
@@ -123,7 +124,7 @@ pub fn repair_step<'a>(
             row,
             false,
         );
-        let sets = tight::neighbourhoods(n, count, tails, heads, &next);
+        let sets = tight::neighbourhoods(n, m, tails, heads, &next);
         return State {
             chosen: next,
             potential: *potential,
@@ -131,7 +132,7 @@ pub fn repair_step<'a>(
         };
     }
     let lifted = raise_for(
-        count,
+        m,
         tails,
         heads,
         costs,
@@ -151,7 +152,7 @@ pub fn repair_step<'a>(
 // Steps from a choice with its tight neighbourhoods until no chosen row has a gap: the choice that is left is one of the cheapest.
 pub fn repair<'a>(
     n: usize,
-    count: usize,
+    m: usize,
     tails: &'a [u8; 256],
     heads: &'a [u8; 256],
     costs: &'a [u64; 256],
@@ -159,8 +160,8 @@ pub fn repair<'a>(
     potential: [u64; 64],
     around: [u64; 64],
 ) -> State
-    requires { ⌜ Ends n count (now tails) (now heads) × Low (now costs) × Repair-start n count (now tails) (now heads) (now costs) potential chosen around ⌝ }
-    ensures { λ r. ⌜ ((h : Hall) → Columns h n count (now (tails .entry)) (now (heads .entry)) → Ranged h →
+    requires { ⌜ Ends n m (now tails) (now heads) × Low (now costs) × Repair-start n m (now tails) (now heads) (now costs) potential chosen around ⌝ }
+    ensures { λ r. ⌜ ((h : Hall) → Columns h n m (now (tails .entry)) (now (heads .entry)) → Ranged h →
         Repairable h (at (now (costs .entry))) (at potential) (flagged chosen) → Neighbourhoods h (flagged chosen) around →
         Repair-end h (at (now (costs .entry))) (at potential) (at (r .potential)) (flagged chosen) (flagged (r .chosen)) (r .around)) ⌝ }
 {
@@ -171,7 +172,7 @@ pub fn repair<'a>(
         around,
     };
     let mut row = unpaid(
-        count,
+        m,
         tails,
         heads,
         costs,
@@ -179,10 +180,10 @@ pub fn repair<'a>(
         &state.potential,
         0,
     );
-    while row < count {
+    while row < m {
         let next = repair_step(
             n,
-            count,
+            m,
             tails,
             heads,
             costs,
@@ -194,7 +195,7 @@ pub fn repair<'a>(
         );
         state = next;
         row = next_unpaid(
-            count,
+            m,
             tails,
             heads,
             costs,

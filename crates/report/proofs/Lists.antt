@@ -21,7 +21,7 @@ use Rattle.planning.specs.Plan.{plan-refusal, shores, weights, in-front, Filled
 use Rattle.planning.proofs.Lent.{shores-length, weights-length}
 use Rattle.printing.specs.Printed.{printed-plan, printed-refusal}
 use Rattle.printing.specs.Placed.{In-front}
-use Rattle.printing.specs.Recorded.{hall-of, cuts-of, Printable}
+use Rattle.printing.specs.Recorded.{hall-of, paired, Printable}
 use Rattle.printing.proofs.Recorded.{hall-of-record}
 use Rattle.report.specs.Report.{Report-as, Report-says}
 
@@ -51,8 +51,8 @@ module _ (f : Refusal) (h : Hall) (r : Planned) (a x b y q z : List ℕ) (d w : 
   number-none plan t = none-as (f .number) refl plan t
 
 -- the cuts of a list's shores and weights are the list
-pub same-cuts : (ks : List Cut) → cuts-of (shores ks) (weights ks) ≡ ks
-unfolding cuts-of shores weights cut
+pub same-cuts : (ks : List Cut) → paired (shores ks) (weights ks) ≡ ks
+unfolding paired shores weights cut
 same-cuts [] = refl
 same-cuts (k ∷ ks) = ap (λ (l : List Cut). k ∷ l) (same-cuts ks)
 
@@ -147,11 +147,11 @@ module _ {h : Hall} {r : Planned} {x y z : List ℕ} {w : List ℤ} {hall : Hall
       }
 
   pub report-planned : (f : Refusal) → f .number ≡ 0 → {before after : List ℕ} {end : ℕ} →
-      In-front (printed-plan (hall-of hall) (take (r .chosen) x) (r .total) (cuts-of (take (r .cuts) y) (take (r .cuts) z)) (take (r .levels) w)) before after end →
+      In-front (printed-plan (hall-of hall) (take (r .chosen) x) (r .total) (paired (take (r .cuts) y) (take (r .cuts) z)) (take (r .levels) w)) before after end →
       Report-as (f .number) f h before after end
   unfolding Report-as
   report-planned f none put =
-      let same : cuts-of (take (r .cuts) y) (take (r .cuts) z) ≡ ls .cuts = ap₂ cuts-of (ls .shores-are) (ls .weights-are) ∙ same-cuts (ls .cuts) in
+      let same : paired (take (r .cuts) y) (take (r .cuts) z) ≡ ls .cuts = ap₂ paired (ls .shores-are) (ls .weights-are) ∙ same-cuts (ls .cuts) in
       rw none (ls .choice, ls .cuts, ls .first, ls .beside, rw (same-hall, ls .rows-are, ls .total-is, same, ls .levels-are) at put)
 
 -- what is reported lies in the buffer

@@ -15,7 +15,7 @@ use Rattle.hall.specs.Plan.{total, earlier, goes-before, Cut, cut, crosses-from
 use Rattle.joining.specs.Promise.{all-bytes, accepted}
 use Rattle.starred.specs.Layout.{bytes-of, rows-bytes, blocks-bytes, file-of}
 use Rattle.starred.specs.Trying.{every-ascending, not-after, is-first, is-beside, same-row, same-hall, same-refusal, same-signed, is-some}
-use Rattle.starred.specs.Cases.{Expected, refused, opens, ties, misses, Case, Accepted, Opens, Ties, Misses, Answers, Says, accepted-tests, opens-tests, ties-tests, misses-tests, answered, case-tests, holds-of, drawn, set-of, printed-hall, printed-file, printed, square, starred}
+use Rattle.starred.specs.Cases.{Expected, refused, opens, ties, misses, Case, Accepted, Planned-as, Ties, Misses, Answers, Says, accepted-tests, opens-tests, ties-tests, misses-tests, answered, case-tests, holds-of, drawn, junctions-of, printed-hall, printed-file, printed, square, starred}
 use Rattle.starred.proofs.Same.{hall-same, refusal-same, levels-same, some-same}
 use Rattle.starred.proofs.Trying.{first-by-trying, beside-by-test}
 
@@ -26,7 +26,7 @@ accepted-by-tests bs t =
     record { unrefused = refusal-same (hall-refusal bs) (refusal 0 0) (found 0); accepts = found 1 }
 
 module _ (h : Hall) where
-  opens-by-tests : (c : List ℕ) (t : ℕ) (ks : List Cut) (ls : List ℤ) → all-of (opens-tests h c t ks ls) ≡ true → Opens h c t ks ls
+  opens-by-tests : (c : List ℕ) (t : ℕ) (ks : List Cut) (ls : List ℤ) → all-of (opens-tests h c t ks ls) ≡ true → Planned-as h c t ks ls
   unfolding opens-tests
   opens-by-tests c t ks ls e =
       let found = all-of-at (opens-tests h c t ks ls) e in
@@ -91,7 +91,7 @@ unfolding all-in all-of same-list holds with-junction
     total earlier goes-before cut crosses-from cross none-cross cuts-good load loads-fit weight-sum most-cuts level-sum difference levels-from levels
     all-bytes accepted bytes-of rows-bytes blocks-bytes file-of
     every-ascending not-after is-first is-beside same-row same-hall same-refusal same-signed is-some
-    accepted-tests opens-tests ties-tests misses-tests answered case-tests holds-of drawn set-of printed-hall printed-file printed square starred
+    accepted-tests opens-tests ties-tests misses-tests answered case-tests holds-of drawn junctions-of printed-hall printed-file printed square starred
 starred-pass = refl
 
 -- THE STARRED HALLS HOLD

@@ -38,7 +38,7 @@ pub record Accepted (bs : List ℕ) : Type 0 where
   pub accepts : accepted bs ≡ true
 
 -- what a plan says
-pub record Opens (h : Hall) (c : List ℕ) (t : ℕ) (ks : List Cut) (ls : List ℤ) : Type 0 where
+pub record Planned-as (h : Hall) (c : List ℕ) (t : ℕ) (ks : List Cut) (ls : List ℤ) : Type 0 where
   pub first : First h c
   pub costs : total h c ≡ t
   pub beside : Beside h c ks
@@ -61,7 +61,7 @@ pub record Misses (h : Hall) (c : List ℕ) (s : ℕ) : Type 0 where
 -- the file is refused so, or it is accepted and what is expected holds of its hall
 unfoldable pub Answers : (file : List ℕ) → Expected → Type 0
 Answers bs (refused n p) = hall-refusal bs ≡ refusal n p
-Answers bs (opens c t ks ls) = Accepted bs × Opens (hall-in bs) c t ks ls
+Answers bs (opens c t ks ls) = Accepted bs × Planned-as (hall-in bs) c t ks ls
 Answers bs (ties c d) = Accepted bs × Ties (hall-in bs) c d
 Answers bs (misses c s) = Accepted bs × Misses (hall-in bs) c s
 
@@ -107,9 +107,9 @@ unfoldable pub drawn : Hall → Expected → Case
 drawn h e = record { file = file-of h; shows = h; expected = e }
 
 -- the set of the listed junctions
-unfoldable pub set-of : List ℕ → ℕ
-set-of [] = 0
-set-of (j ∷ js) = with-junction j (set-of js)
+unfoldable pub junctions-of : List ℕ → ℕ
+junctions-of [] = 0
+junctions-of (j ∷ js) = with-junction j (junctions-of js)
 
 -- the printed hall
 unfoldable pub printed-hall : Hall
@@ -133,17 +133,17 @@ unfoldable pub starred : List Case
 starred =
     drawn (hall 1 []) (opens [] 0 [] (pos 0 ∷ []))
     ∷ drawn (hall 2 []) (refused 9 0)
-    ∷ drawn (hall 2 (row-of 1 2 7 ∷ [])) (opens (1 ∷ []) 7 (cut (set-of (2 ∷ [])) 7 ∷ []) (pos 0 ∷ pos 7 ∷ []))
-    ∷ drawn (hall 2 (row-of 2 1 7 ∷ [])) (opens (1 ∷ []) 7 (cut (set-of (1 ∷ [])) 7 ∷ []) (pos 0 ∷ negsuc 6 ∷ []))
+    ∷ drawn (hall 2 (row-of 1 2 7 ∷ [])) (opens (1 ∷ []) 7 (cut (junctions-of (2 ∷ [])) 7 ∷ []) (pos 0 ∷ pos 7 ∷ []))
+    ∷ drawn (hall 2 (row-of 2 1 7 ∷ [])) (opens (1 ∷ []) 7 (cut (junctions-of (1 ∷ [])) 7 ∷ []) (pos 0 ∷ negsuc 6 ∷ []))
     ∷ drawn (hall 2 (row-of 1 2 0 ∷ [])) (opens (1 ∷ []) 0 [] (pos 0 ∷ pos 0 ∷ []))
     ∷ drawn (hall 2 (row-of 1 2 5 ∷ row-of 2 1 5 ∷ [])) (opens [] 0 [] (pos 0 ∷ pos 0 ∷ []))
-    ∷ drawn (hall 2 (row-of 1 2 5 ∷ row-of 1 2 5 ∷ [])) (opens (1 ∷ []) 5 (cut (set-of (2 ∷ [])) 5 ∷ []) (pos 0 ∷ pos 5 ∷ []))
+    ∷ drawn (hall 2 (row-of 1 2 5 ∷ row-of 1 2 5 ∷ [])) (opens (1 ∷ []) 5 (cut (junctions-of (2 ∷ [])) 5 ∷ []) (pos 0 ∷ pos 5 ∷ []))
     ∷ drawn (hall 3 (row-of 1 2 2 ∷ row-of 2 3 3 ∷ []))
-    (opens (1 ∷ 2 ∷ []) 5 (cut (set-of (3 ∷ [])) 3 ∷ cut (set-of (2 ∷ 3 ∷ [])) 2 ∷ []) (pos 0 ∷ pos 2 ∷ pos 5 ∷ []))
-    ∷ printed (opens (3 ∷ []) 4 (cut (set-of (3 ∷ [])) 1 ∷ cut (set-of (2 ∷ 3 ∷ [])) 3 ∷ []) (pos 0 ∷ pos 3 ∷ pos 4 ∷ []))
+    (opens (1 ∷ 2 ∷ []) 5 (cut (junctions-of (3 ∷ [])) 3 ∷ cut (junctions-of (2 ∷ 3 ∷ [])) 2 ∷ []) (pos 0 ∷ pos 2 ∷ pos 5 ∷ []))
+    ∷ printed (opens (3 ∷ []) 4 (cut (junctions-of (3 ∷ [])) 1 ∷ cut (junctions-of (2 ∷ 3 ∷ [])) 3 ∷ []) (pos 0 ∷ pos 3 ∷ pos 4 ∷ []))
     ∷ printed (ties (3 ∷ []) (1 ∷ 2 ∷ []))
-    ∷ drawn square (opens (1 ∷ 4 ∷ []) 2 (cut (set-of (2 ∷ [])) 1 ∷ cut (set-of (4 ∷ [])) 1 ∷ []) (pos 0 ∷ pos 1 ∷ pos 0 ∷ pos 1 ∷ []))
+    ∷ drawn square (opens (1 ∷ 4 ∷ []) 2 (cut (junctions-of (2 ∷ [])) 1 ∷ cut (junctions-of (4 ∷ [])) 1 ∷ []) (pos 0 ∷ pos 1 ∷ pos 0 ∷ pos 1 ∷ []))
     ∷ drawn square (ties (1 ∷ 4 ∷ []) (2 ∷ 3 ∷ []))
-    ∷ drawn (hall 4 (row-of 1 2 1 ∷ row-of 2 3 1 ∷ row-of 3 4 1 ∷ [])) (misses (1 ∷ 3 ∷ []) (set-of (3 ∷ 4 ∷ [])))
+    ∷ drawn (hall 4 (row-of 1 2 1 ∷ row-of 2 3 1 ∷ row-of 3 4 1 ∷ [])) (misses (1 ∷ 3 ∷ []) (junctions-of (3 ∷ 4 ∷ [])))
     ∷ drawn (hall 2 (row-of 3 3 0 ∷ [])) (refused 6 1)
     ∷ []

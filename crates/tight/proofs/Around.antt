@@ -27,7 +27,7 @@ use Rattle.joining.proofs.Joining.{joining-reach}
 use Rattle.neighbours.specs.Removal.{without, Spared, Chosen}
 use Rattle.neighbours.proofs.Removal.{around-reached, reached-around}
 use Rattle.tight.specs.Solid.{forward, backward, solid}
-use Rattle.tight.specs.Robust.{cut, Robust, RobustSet}
+use Rattle.tight.specs.Robust.{arcs-without, Robust, RobustSet}
 use Rattle.tight.proofs.Cut.{cut-holds, cut-lt}
 use Rattle.tight.proofs.Dropped.{arc-rows, dropped-solid, dropped-frail}
 
@@ -56,8 +56,8 @@ frail-row h F x y a e =
     (or-cases (forward h x y k) (backward h F x y k) (w .2))
 
 module _ (h : Hall) (ranged : Ranged h) (F : ℕ → Bool) (joins : Joining h (once F)) (small : h .n ≤ 64)
-    (out firm : ℕ → ℕ) (out-is : (x : ℕ) → 1 ≤ x → x ≤ h .n → out x ≡ arcs h F x)
-    (firm-is : (x y : ℕ) → 1 ≤ x → x ≤ h .n → 1 ≤ y → y ≤ h .n → holds (firm x) y ≡ solid h F x y)
+    (out solids : ℕ → ℕ) (out-is : (x : ℕ) → 1 ≤ x → x ≤ h .n → out x ≡ arcs h F x)
+    (solid-is : (x y : ℕ) → 1 ≤ x → x ≤ h .n → 1 ≤ y → y ≤ h .n → holds (solids x) y ≡ solid h F x y)
     (v : ℕ) (v-low : 1 ≤ v) (v-high : v ≤ h .n) where
   abbrev n : ℕ
   n = h .n
@@ -80,7 +80,7 @@ module _ (h : Hall) (ranged : Ranged h) (F : ℕ → Bool) (joins : Joining h (o
   narrow s g = reach-narrow n out start s small (one-lt n v v-low v-high) out-lt g
 
   -- without an arc that is not there, or not among the junctions
-  cut-none : (x y : ℕ) → 1 ≤ y → ((x ≤ n) → holds (out x) y ≡ false) → (j i : ℕ) → 1 ≤ j → j ≤ n → 1 ≤ i → holds (cut out x y j) i ≡ holds (out j) i
+  cut-none : (x y : ℕ) → 1 ≤ y → ((x ≤ n) → holds (out x) y ≡ false) → (j i : ℕ) → 1 ≤ j → j ≤ n → 1 ≤ i → holds (arcs-without out x y j) i ≡ holds (out j) i
   cut-none x y ly none j i l m k =
       let here = eqb j x && eqb i y in
       cut-holds out x y j i ly k
@@ -94,13 +94,13 @@ module _ (h : Hall) (ranged : Ranged h) (F : ℕ → Bool) (joins : Joining h (o
       let to : i ≡ y = eqb-true i y (and-r (eqb j x) (eqb i y) q) in
       clash (sym (ap₂ (λ (a b : ℕ). holds (out a) b) at to) ∙ t) (none (omega arith))))))
 
-  cut-narrow : (x y s : ℕ) → Reach 64 (cut out x y) start s → Reach n (cut out x y) start s
+  cut-narrow : (x y s : ℕ) → Reach 64 (arcs-without out x y) start s → Reach n (arcs-without out x y) start s
   cut-narrow x y s g =
-      reach-narrow n (cut out x y) start s small (one-lt n v v-low v-high) (λ j l m. cut-lt out x y j n (out-lt j l m)) g
+      reach-narrow n (arcs-without out x y) start s small (one-lt n v v-low v-high) (λ j l m. cut-lt out x y j n (out-lt j l m)) g
 
   -- without the way back of a chosen row whose arc is frail
   cut-dropped : (f : ℕ) → Chosen h F f → solid h F (row h f .to) (row h f .from) ≡ false →
-      (j i : ℕ) → 1 ≤ j → j ≤ n → 1 ≤ i → holds (cut out (row h f .to) (row h f .from) j) i ≡ holds (arcs h (without F f) j) i
+      (j i : ℕ) → 1 ≤ j → j ≤ n → 1 ≤ i → holds (arcs-without out (row h f .to) (row h f .from) j) i ≡ holds (arcs h (without F f) j) i
   cut-dropped f c e j i l m k =
       let x = row h f .to in
       let y = row h f .from in
@@ -108,32 +108,32 @@ module _ (h : Hall) (ranged : Ranged h) (F : ℕ → Bool) (joins : Joining h (o
       cut-holds out x y j i ly k ∙ ap (λ (w : ℕ). holds w i && not (eqb j x && eqb i y)) (out-is j l m)
       ∙ sym (cut-holds (arcs h F) x y j i ly k) ∙ dropped-frail h F f c ly e j i k
 
-  pub around-robust : (u : ℕ) → 1 ≤ u → u ≤ n → holds (around h (once F) v) u ≡ true → Robust out firm v u
+  pub around-robust : (u : ℕ) → 1 ≤ u → u ≤ n → holds (around h (once F) v) u ≡ true → Robust out solids v u
   around-robust u l m e =
       record {
         reached = λ s g. all-reached s (narrow s g) u l m;
         still = λ x y lx mx ly loose s g.
-            let among : Reach n (cut out x y) start s = cut-narrow x y s g in
+            let among : Reach n (arcs-without out x y) start s = cut-narrow x y s g in
             by-bool (leb x n && holds (out x) y)
             (λ t.
             let hx : x ≤ n = leb-true x n (and-l (leb x n) (holds (out x) y) t) in
             let a : holds (arcs h F x) y ≡ true = sym (ap (λ (w : ℕ). holds w y) (out-is x lx hx)) ∙ and-r (leb x n) (holds (out x) y) t in
             let hy : y ≤ n = junction-le n (arcs h F x) y (arcs-lt h F x) a in
-            let frail : solid h F x y ≡ false = sym (firm-is x y lx hx ly hy) ∙ loose in
+            let frail : solid h F x y ≡ false = sym (solid-is x y lx hx ly hy) ∙ loose in
             let w = frail-row h F x y (arcs-arc h F x y ly a) frail in
             let f = w .0 in
             let own : solid h F (row h f .to) (row h f .from) ≡ false = ap₂ (solid h F) (w .2) (w .3) ∙ frail in
             let spared : Spared h F f v s =
-            reach-alike n (cut out x y) (arcs h (without F f))
-            (λ j i p q k. ap₂ (λ (a b : ℕ). holds (cut out a b j) i) (sym (w .2)) (sym (w .3)) ∙ cut-dropped f (w .1) own j i p q k) start s among in
+            reach-alike n (arcs-without out x y) (arcs h (without F f))
+            (λ j i p q k. ap₂ (λ (a b : ℕ). holds (arcs-without out a b j) i) (sym (w .2)) (sym (w .3)) ∙ cut-dropped f (w .1) own j i p q k) start s among in
             around-reached h ranged F joins v v-low v-high u l m e f (w .1 .low) (w .1 .high) s spared)
             (λ t.
             let none : x ≤ n → holds (out x) y ≡ false =
             λ hx. not-true-false (holds (out x) y) (λ q. clash (and-i (leb x n) (holds (out x) y) (le-leb x n hx) q) t) in
-            all-reached s (reach-alike n (cut out x y) out (cut-none x y ly none) start s among) u l m);
+            all-reached s (reach-alike n (arcs-without out x y) out (cut-none x y ly none) start s among) u l m);
       }
 
-  pub robust-around : (u : ℕ) → 1 ≤ u → u ≤ n → Robust out firm v u → holds (around h (once F) v) u ≡ true
+  pub robust-around : (u : ℕ) → 1 ≤ u → u ≤ n → Robust out solids v u → holds (around h (once F) v) u ≡ true
   robust-around u l m r =
       reached-around h F v v-low u l m
       (λ f c.
@@ -156,13 +156,13 @@ module _ (h : Hall) (ranged : Ranged h) (F : ℕ → Bool) (joins : Joining h (o
             (reach-alike n spare out
             (λ j i p q k. sym (dropped-solid h F f c e j i k) ∙ sym (ap (λ (w : ℕ). holds w i) (out-is j p q))) start s reach)))
             (λ e.
-            r .still x y lx (omega arith) ly (firm-is x y lx hx ly hy ∙ e) s
-            (reach-widen n 64 (cut out x y) start s small (closure-lt n spare start few)
-            (reach-alike n spare (cut out x y) (λ j i p q k. sym (cut-dropped f c e j i p q k)) start s reach))),
+            r .still x y lx (omega arith) ly (solid-is x y lx hx ly hy ∙ e) s
+            (reach-widen n 64 (arcs-without out x y) start s small (closure-lt n spare start few)
+            (reach-alike n spare (arcs-without out x y) (λ j i p q k. sym (cut-dropped f c e j i p q k)) start s reach))),
       ))
 
   -- all that is robust is among the junctions
-  robust-low : (set : ℕ) → RobustSet out firm v set → set < 2 ^ n
+  robust-low : (set : ℕ) → RobustSet out solids v set → set < 2 ^ n
   unfolding Within
   robust-low set r =
       let few : start < 2 ^ n = one-lt n v v-low v-high in
@@ -172,7 +172,7 @@ module _ (h : Hall) (ranged : Ranged h) (F : ℕ → Bool) (joins : Joining h (o
       within-full-lt n set (λ u l t. within-full n all all-lt u l (r .holds-robust u l t .reached all reach))
 
   -- the robust set is the tight neighbourhood
-  pub robust-set-around : (set : ℕ) → RobustSet out firm v set → set ≡ around h (once F) v
+  pub robust-set-around : (set : ℕ) → RobustSet out solids v set → set ≡ around h (once F) v
   robust-set-around set r =
       sets-ext n set (around h (once F) v) (robust-low set r) (around-lt h (once F) v)
       (λ u l m.

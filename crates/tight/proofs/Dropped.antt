@@ -18,7 +18,7 @@ use Rattle.dicuts.specs.Arcs.{arc, arcs}
 use Rattle.joining.proofs.Sealed.{arcs-arc, arc-arcs}
 use Rattle.neighbours.specs.Removal.{without, Chosen}
 use Rattle.tight.specs.Solid.{forward, backward, solid}
-use Rattle.tight.specs.Robust.{cut}
+use Rattle.tight.specs.Robust.{arcs-without}
 use Rattle.tight.proofs.Cut.{cut-holds}
 
 -- an arc is a row forward, or one of F backward
@@ -145,12 +145,12 @@ module _ (h : Hall) (F : ℕ → Bool) (f : ℕ) (chosen : Chosen h F f) where
 
   -- the adjacency without a row whose arc is frail lacks that arc alone
   pub dropped-frail :
-      1 ≤ y → solid h F x y ≡ false → (a b : ℕ) → 1 ≤ b → holds (cut (arcs h F) x y a) b ≡ holds (arcs h (without F f) a) b
+      1 ≤ y → solid h F x y ≡ false → (a b : ℕ) → 1 ≤ b → holds (arcs-without (arcs h F) x y a) b ≡ holds (arcs h (without F f) a) b
   unfolding arcs
   dropped-frail ly e a b l =
       let here = eqb a x && eqb b y in
       let is = cut-holds (arcs h F) x y a b ly l in
-      arcs-agree h (without F f) (cut (arcs h F) x y) a b l
+      arcs-agree h (without F f) (arcs-without (arcs h F) x y) a b l
       (λ t.
       let both = sym is ∙ t in
       let in-it = and-l (holds (arcs h F a) b) (not here) both in (

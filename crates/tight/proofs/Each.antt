@@ -8,19 +8,19 @@ use lib.Dec.{eqb, ltb}
 use lib.ListN.{getD, set, replicate, length-set, getD-replicate}
 use lib.Seq.{getD-set-same, getD-set-other}
 use borrow.Author.Tests.{eqb-true, eqb-false, ltb-true, ltb-false}
+use Rattle.laws.specs.Lists.{at}
 use Rattle.laws.proofs.Booleans.{by-bool, clash}
 use Rattle.junctions.specs.Sets.{holds}
 use Rattle.junctions.proofs.Sets.{none-holds}
-use Rattle.digraph.specs.Adjacency.{out-of}
 use Rattle.hall.specs.Hall.{Hall}
 use Rattle.dicuts.specs.Shores.{Ranged, once, Joining, around}
 use Rattle.columns.specs.Columns.{Columns, Arcs, Neighbourhoods}
-use Rattle.tight.specs.Solid.{Firm}
+use Rattle.tight.specs.Solid.{Solid-arcs}
 use Rattle.tight.specs.Robust.{Robust, RobustSet}
-use Rattle.tight.specs.Growth.{Known, Found}
+use Rattle.tight.specs.Growth.{Known, Robust-from}
 use Rattle.tight.proofs.Around.{robust-set-around}
 
-pub found-none : (arcs solid : List ℕ) (n : ℕ) → n ≤ 64 → Found arcs solid (replicate 64 0) n n
+pub found-none : (arcs solid : List ℕ) (n : ℕ) → n ≤ 64 → Robust-from arcs solid (replicate 64 0) n n
 found-none arcs solid n small =
     record {
       size = refl;
@@ -31,8 +31,8 @@ found-none arcs solid n small =
 
 -- the set of the junction before the sets that are found
 pub found-more :
-    (arcs solid sets : List ℕ) (n k more : ℕ) → 1 ≤ k → k ≤ n → n ≤ 64 → Found arcs solid sets n k →
-    RobustSet (out-of arcs) (out-of solid) k more → Found arcs solid (set sets (k - 1) more) n (k - 1)
+    (arcs solid sets : List ℕ) (n k more : ℕ) → 1 ≤ k → k ≤ n → n ≤ 64 → Robust-from arcs solid sets n k →
+    RobustSet (at arcs) (at solid) k more → Robust-from arcs solid (set sets (k - 1) more) n (k - 1)
 found-more arcs solid sets n k more low high small so-far r =
     let other : (i : ℕ) → (i ≡ k - 1 → ⊥) → getD (set sets (k - 1) more) i 0 ≡ getD sets i 0 =
     λ i differ. getD-set-other sets (k - 1) i more 0 differ in
@@ -46,18 +46,18 @@ found-more arcs solid sets n k more low high small so-far r =
           rw (at, getD-set-same sets (k - 1) more 0 (omega (arith, so-far .size)), place) r)
           (λ e.
           let differ : i ≡ k - 1 → ⊥ = eqb-false i (k - 1) e in
-          subst (RobustSet (out-of arcs) (out-of solid) (suc i)) (sym (other i differ)) (so-far .each i (omega (arith, differ)) m));
+          subst (RobustSet (at arcs) (at solid) (suc i)) (sym (other i differ)) (so-far .each i (omega (arith, differ)) m));
       before = λ i l. other i (λ e. omega arith) ∙ so-far .before i (omega arith);
       after = λ i l m. other i (λ e. omega arith) ∙ so-far .after i l m;
     }
 
 -- what is found so far holds robust junctions only
 pub found-known :
-    (arcs solid sets : List ℕ) (n k : ℕ) → Found arcs solid sets n k → Known (out-of arcs) (out-of solid) (out-of sets)
+    (arcs solid sets : List ℕ) (n k : ℕ) → Robust-from arcs solid sets n k → Known (at arcs) (at solid) (at sets)
 found-known arcs solid sets n k found x l m u lu t =
     let i = x - 1 in
     let place : suc i ≡ x = omega arith in
-    let empty : getD sets i 0 ≡ 0 → Robust (out-of arcs) (out-of solid) x u = λ e. clash t (ap (λ (s : ℕ). holds s u) e ∙ none-holds u) in
+    let empty : getD sets i 0 ≡ 0 → Robust (at arcs) (at solid) x u = λ e. clash t (ap (λ (s : ℕ). holds s u) e ∙ none-holds u) in
     by-bool (ltb i k) (λ e. empty (found .before i (ltb-true i k e)))
     (λ e.
     by-bool (ltb i n)
@@ -66,15 +66,15 @@ found-known arcs solid sets n k found x l m u lu t =
 
 -- what `neighbourhood` finds in the columns of a hall
 pub robust-neighbourhood :
-    (h : Hall) → Ranged h → (F : ℕ → Bool) → Joining h (once F) → h .n ≤ 64 → (arcs solid : List ℕ) → Arcs h F arcs → Firm h F solid →
-    (v : ℕ) → 1 ≤ v → v ≤ h .n → (set : ℕ) → RobustSet (out-of arcs) (out-of solid) v set → set ≡ around h (once F) v
-unfolding Arcs Firm
+    (h : Hall) → Ranged h → (F : ℕ → Bool) → Joining h (once F) → h .n ≤ 64 → (arcs solid : List ℕ) → Arcs h F arcs → Solid-arcs h F solid →
+    (v : ℕ) → 1 ≤ v → v ≤ h .n → (set : ℕ) → RobustSet (at arcs) (at solid) v set → set ≡ around h (once F) v
+unfolding Arcs Solid-arcs
 robust-neighbourhood h ranged F joins small arcs solid arcs-are solid-are =
-    robust-set-around h ranged F joins small (out-of arcs) (out-of solid) arcs-are solid-are
+    robust-set-around h ranged F joins small (at arcs) (at solid) arcs-are solid-are
 
 pub found-all :
-    (n m : ℕ) (arcs solid sets ts hs : List ℕ) (k : ℕ) → n ≤ 64 → k ≡ 0 → Found arcs solid sets n k → (h : Hall) → Columns h n m ts hs → Ranged h →
-    (F : ℕ → Bool) → Joining h (once F) → Arcs h F arcs → Firm h F solid → Neighbourhoods h F sets
+    (n m : ℕ) (arcs solid sets ts hs : List ℕ) (k : ℕ) → n ≤ 64 → k ≡ 0 → Robust-from arcs solid sets n k → (h : Hall) → Columns h n m ts hs → Ranged h →
+    (F : ℕ → Bool) → Joining h (once F) → Arcs h F arcs → Solid-arcs h F solid → Neighbourhoods h F sets
 unfolding Neighbourhoods
 found-all n m arcs solid sets ts hs k small all found h cols ranged F joins arcs-are solid-are v l u =
     let same = cols .junctions in

@@ -2,7 +2,7 @@ pub mod Cut
 pub mod Reached
 pub mod Dropped
 pub mod Around
-pub mod Firming
+pub mod SolidRows
 pub mod Expanding
 pub mod Sure
 pub mod Searches

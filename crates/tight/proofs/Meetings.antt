@@ -12,7 +12,7 @@ use Rattle.laws.proofs.Booleans.{by-bool, clash, and-l, and-r, and-i, or-cases,
 use Rattle.junctions.specs.Sets.{holds, Within}
 use Rattle.junctions.proofs.Sets.{or-holds, less-holds, none-holds, lowest-is}
 use Rattle.junctions.proofs.Words.{clear-holds}
-use Rattle.tight.specs.Growth.{Leads, apart, Searched, Part, Meeting}
+use Rattle.tight.specs.Growth.{Leads, apart, Searched, Search-part, Meeting}
 use Rattle.tight.proofs.Searches.{leads-more}
 
 -- a set without another
@@ -34,7 +34,7 @@ pub record Keeping (out : ℕ → ℕ) (set heads other rest : ℕ) : Type 0 whe
   pub heads-in : Within (less heads rest) other
   pub beside : (y : ℕ) → 1 ≤ y → holds other y ≡ true → holds set y ≡ false
   pub parts : (y : ℕ) → 1 ≤ y → holds other y ≡ true →
-      (part : ℕ) × (h : ℕ) × (holds part y ≡ true) × Within part other × Part out set (less heads rest) other part h
+      (part : ℕ) × (h : ℕ) × (holds part y ≡ true) × Within part other × Search-part out set (less heads rest) other part h
   pub led : (y : ℕ) → 1 ≤ y → holds other y ≡ true → (h : ℕ) × (1 ≤ h) × (holds (less heads rest) h ≡ true) × Leads out (holds other) h y
 
 pub keeping-start : (out : ℕ → ℕ) (set heads : ℕ) → Keeping out set heads 0 heads
@@ -145,7 +145,7 @@ module _ (out : ℕ → ℕ) (set heads other rest h seen met : ℕ) (low : 1 �
         (λ r. clash (rest-is i l ∙ and-i (holds rest i) (not (eqb i h)) r (ap not e)) (less-r heads rest′ i t)))))
 
     -- a part before is still one
-    old-part : (part i : ℕ) → Within part other → Part out set (less heads rest) other part i → Part out set (less heads rest′) other′ part i
+    old-part : (part i : ℕ) → Within part other → Search-part out set (less heads rest) other part i → Search-part out set (less heads rest′) other′ part i
     unfolding Within
     old-part part i inside p =
         record {
@@ -163,7 +163,7 @@ module _ (out : ℕ → ℕ) (set heads other rest h seen met : ℕ) (low : 1 �
               (gains y there, not-true-false (holds part y) (λ w. clash (inside y ly w) (fresh-clear y ly there)))) (other-cases x t);
         }
 
-    fresh-part : Part out set (less heads rest′) other′ fresh h
+    fresh-part : Search-part out set (less heads rest′) other′ fresh h
     unfolding Within
     fresh-part =
         record {

@@ -14,8 +14,8 @@ use Rattle.junctions.proofs.Sets.{and-holds, or-holds, none-holds, some-junctio
 use Rattle.junctions.proofs.Members.{within-le}
 use Rattle.junctions.proofs.Single.{one-lt, one-self, one-within}
 use Rattle.digraph.specs.Reach.{Closed, Reach}
-use Rattle.tight.specs.Robust.{cut, Bypass, Robust, RobustSet}
-use Rattle.tight.specs.Growth.{All-robust, done, Growing, Met, Part, Parted, Meeting}
+use Rattle.tight.specs.Robust.{arcs-without, Bypass, Robust, RobustSet}
+use Rattle.tight.specs.Growth.{All-robust, done, Growing, Met, Search-part, Kept-apart, Meeting}
 use Rattle.tight.proofs.Cut.{cut-holds, cut-stays}
 use Rattle.tight.proofs.Reached.{reach-some}
 use Rattle.tight.proofs.Meetings.{less, less-i, less-l, less-r}
@@ -28,9 +28,9 @@ unfolding Closed Within
 spared-arc out v a b s lb reach x i lx hx li t arc other = reach .closed x lx hx t i li (cut-stays out a b x i lb li arc other)
 
 -- at first the set holds v only, which is to do
-pub growing-start : (out firm : ℕ → ℕ) (v : ℕ) → 1 ≤ v → Growing out firm v (bitOr 0 (2 ^ (v - 1))) (2 ^ (v - 1)) 0
+pub growing-start : (out solids : ℕ → ℕ) (v : ℕ) → 1 ≤ v → Growing out solids v (bitOr 0 (2 ^ (v - 1))) (2 ^ (v - 1)) 0
 unfolding Within
-growing-start out firm v lv =
+growing-start out solids v lv =
     let start = 2 ^ (v - 1) in
     let all : (x : ℕ) → holds (bitOr 0 start) x ≡ holds start x =
     λ x. or-holds 0 start x ∙ ap (λ (b : Bool). b || holds start x) (none-holds x) in
@@ -43,14 +43,14 @@ growing-start out firm v lv =
           record { reached = λ s g. g .contains u l (sym (all u) ∙ t); still = λ x y lx hx ly loose s g. g .contains u l (sym (all u) ∙ t) };
       own = all v ∙ one-self v lv;
       pending = λ u l t. all u ∙ t;
-      firm-in = λ x y lx hx ly d. absurd (none x d);
+      solid-in = λ x y lx hx ly d. absurd (none x d);
       onto = λ x y lx hx ly d. absurd (none x d);
       from = λ y l t. clash t (none-holds y);
       lone = λ x z y lx hx lz hz ly d. absurd (none x d);
     }
 
 -- a set that has none to do
-module _ (out firm : ℕ → ℕ) (v set once : ℕ) (g : Growing out firm v set 0 once) where
+module _ (out solids : ℕ → ℕ) (v set once : ℕ) (g : Growing out solids v set 0 once) where
   abbrev heads : ℕ
   heads = less once set
 
@@ -72,8 +72,8 @@ module _ (out firm : ℕ → ℕ) (v set once : ℕ) (g : Growing out firm v set
 
   -- with what is robust, which is then to do
   pub growing-met :
-      (met : ℕ) → All-robust out firm v met → ((y : ℕ) → 1 ≤ y → holds met y ≡ true → holds set y ≡ false) →
-      Growing out firm v (bitOr set met) met once
+      (met : ℕ) → All-robust out solids v met → ((y : ℕ) → 1 ≤ y → holds met y ≡ true → holds set y ≡ false) →
+      Growing out solids v (bitOr set met) met once
   unfolding Within
   growing-met met robust fresh =
       let both = bitOr set met in
@@ -94,7 +94,7 @@ module _ (out firm : ℕ → ℕ) (v set once : ℕ) (g : Growing out firm v set
             (or-cases (holds set u) (holds met u) (sym (or-holds set met u) ∙ t));
         own = old v (g .own);
         pending = λ u l t. or-holds set met u ∙ or-r (holds set u) (holds met u) t;
-        firm-in = λ x y lx hx ly d arc solid. old y (g .firm-in x y lx hx ly (was x d) arc solid);
+        solid-in = λ x y lx hx ly d arc solid. old y (g .solid-in x y lx hx ly (was x d) arc solid);
         onto = λ x y lx hx ly d arc. g .onto x y lx hx ly (was x d) arc;
         from = λ y l t. let w = g .from y l t in (w .0, w .1, w .2, still (w .0) (w .1) (w .3), w .4);
         lone = λ x z y lx hx lz hz ly d e a b f.
@@ -102,7 +102,7 @@ module _ (out firm : ℕ → ℕ) (v set once : ℕ) (g : Growing out firm v set
       }
 
   -- a junction in which two searches meet is robust: no one arc is in the way of both
-  pub robust-met : (y : ℕ) → Met out set heads y → Robust out firm v y
+  pub robust-met : (y : ℕ) → Met out set heads y → Robust out solids v y
   unfolding Closed Within
   robust-met y m =
       let first = m .first in
@@ -144,11 +144,11 @@ module _ (out firm : ℕ → ℕ) (v set once : ℕ) (g : Growing out firm v set
       }
 
   -- what the searches meet in comes to the set
-  pub growing-meeting : (met : ℕ) → Meeting out set heads met → Growing out firm v (bitOr set met) met once
+  pub growing-meeting : (met : ℕ) → Meeting out set heads met → Growing out solids v (bitOr set met) met once
   growing-meeting met m = growing-met met (λ u l t. robust-met u (m .met u l t .1)) (λ u l t. m .met u l t .0)
 
   -- the parts beside the set keep apart
-  module _ (v-low : 1 ≤ v) (v-high : v ≤ 64) (fits : set < 2 ^ 64) (all : ℕ) (parted : Parted out set heads all) where
+  module _ (v-low : 1 ≤ v) (v-high : v ≤ 64) (fits : set < 2 ^ 64) (all : ℕ) (parted : Kept-apart out set heads all) where
     abbrev start : ℕ
     start = 2 ^ (v - 1)
 
@@ -160,7 +160,7 @@ module _ (out firm : ℕ → ℕ) (v set once : ℕ) (g : Growing out firm v set
         (r .0, r .1, r .1 .least t (one-within t v v-low (more v v-low (g .own))) shut)
 
     -- nothing of a part is robust: the one arc to its head is in the way
-    part-lost : (part h u : ℕ) → Part out set heads all part h → 1 ≤ u → holds set u ≡ false → holds part u ≡ true → Robust out firm v u → ⊥
+    part-lost : (part h u : ℕ) → Search-part out set heads all part h → 1 ≤ u → holds set u ≡ false → holds part u ≡ true → Robust out solids v u → ⊥
     unfolding Within Closed
     part-lost part h u p lu far in-part robust =
         let w = head-from h (p .low) (p .head) in
@@ -168,12 +168,12 @@ module _ (out firm : ℕ → ℕ) (v set once : ℕ) (g : Growing out firm v set
         let rest = less all part in
         let t = bitOr set rest in
         let h-out : holds set h ≡ false = parted .beside h (p .low) (parted .heads-in h (p .low) (p .head)) in
-        let loose : holds (firm x) h ≡ false =
-        not-true-false (holds (firm x) h) (λ e. clash (g .firm-in x h (w .1) (w .2) (p .low) (in-done x (w .3)) (w .4) e) h-out) in
+        let loose : holds (solids x) h ≡ false =
+        not-true-false (holds (solids x) h) (λ e. clash (g .solid-in x h (w .1) (w .2) (p .low) (in-done x (w .3)) (w .4) e) h-out) in
         let old : (i : ℕ) → holds set i ≡ true → holds t i ≡ true = λ i e. or-holds set rest i ∙ or-l (holds set i) (holds rest i) e in
         let new : (i : ℕ) → holds all i ≡ true → holds part i ≡ false → holds t i ≡ true =
         λ i e f. or-holds set rest i ∙ or-r (holds set i) (holds rest i) (less-i all part i e f) in
-        let shut : Closed 64 (cut out x h) t =
+        let shut : Closed 64 (arcs-without out x h) t =
         λ j lj hj e i li a.
         let mask = eqb j x && eqb i h in
         let both = sym (cut-holds out x h j i (p .low) li) ∙ a in
@@ -195,14 +195,14 @@ module _ (out firm : ℕ → ℕ) (v set once : ℕ) (g : Growing out firm v set
         let q = p .rest j i lj hj li (less-l all part j from-rest) (less-r all part j from-rest) arc i-out in
         new i (q .0) (q .1))
         (or-cases (holds set j) (holds rest j) (sym (or-holds set rest j) ∙ e))) in
-        let r = reached-in (cut out x h) t (λ i l e. old i e) shut in
+        let r = reached-in (arcs-without out x h) t (λ i l e. old i e) shut in
         ⊎-elim (λ (e : holds set u ≡ true). clash e far)
         (λ (e : holds rest u ≡ true). clash in-part (less-r all part u e))
         (or-cases (holds set u) (holds rest u)
         (sym (or-holds set rest u) ∙ r .2 u lu (robust .still x h (w .1) (w .2) (p .low) loose (r .0) (r .1))))
 
     -- where there is a part, what is reached outside the set is in it or in another
-    some-lost : (y : ℕ) → 1 ≤ y → holds all y ≡ true → (u : ℕ) → 1 ≤ u → holds set u ≡ false → Robust out firm v u → ⊥
+    some-lost : (y : ℕ) → 1 ≤ y → holds all y ≡ true → (u : ℕ) → 1 ≤ u → holds set u ≡ false → Robust out solids v u → ⊥
     unfolding Within Closed
     some-lost y ly in-all u lu far robust =
         let w = parted .parts y ly in-all in
@@ -237,7 +237,7 @@ module _ (out firm : ℕ → ℕ) (v set once : ℕ) (g : Growing out firm v set
         (or-cases (holds set u) (holds beside u) (sym (or-holds set beside u) ∙ r .2 u lu (robust .reached (r .0) (r .1))))
 
     -- where there is none, no arc leads out of the set
-    none-lost : all ≡ 0 → (u : ℕ) → 1 ≤ u → holds set u ≡ false → Robust out firm v u → ⊥
+    none-lost : all ≡ 0 → (u : ℕ) → 1 ≤ u → holds set u ≡ false → Robust out solids v u → ⊥
     unfolding Within Closed
     none-lost none u lu far robust =
         let shut : Closed 64 out set =
@@ -247,7 +247,7 @@ module _ (out firm : ℕ → ℕ) (v set once : ℕ) (g : Growing out firm v set
         let r = reached-in out set (λ i l e. e) shut in
         clash (r .2 u lu (robust .reached (r .0) (r .1))) far
 
-    pub grown-all : RobustSet out firm v set
+    pub grown-all : RobustSet out solids v set
     grown-all =
         record {
           low = fits;

@@ -1,4 +1,4 @@
--- Firm arcs, second arcs and known sets lead to robust junctions, and a set that grows by these stays right. Assumes nothing.
+-- Solid-arcs arcs, second arcs and known sets lead to robust junctions, and a set that grows by these stays right. Assumes nothing.
 use mathlib.Core.Path.{_≡_, refl, sym, ap, ap₂, _∙_}
 use mathlib.Core.Bool.{Bool, true, false, _&&_, _||_, not}
 use mathlib.Core.Logic.{_⊎_, inl, inr, ⊎-elim}
@@ -15,7 +15,7 @@ use Rattle.junctions.proofs.Words.{clear-holds}
 use Rattle.junctions.proofs.Single.{one-lt, one-within}
 use Rattle.digraph.specs.Reach.{Closed, Reach}
 use Rattle.digraph.proofs.Expand.{left-after, expand-fits}
-use Rattle.tight.specs.Robust.{cut, Robust}
+use Rattle.tight.specs.Robust.{arcs-without, Robust}
 use Rattle.tight.specs.Growth.{All-robust, done, Growing}
 use Rattle.tight.proofs.Cut.{cut-stays}
 use Rattle.tight.proofs.Reached.{reach-some}
@@ -35,52 +35,52 @@ module _ (out : ℕ → ℕ) (v : ℕ) where
       let w = reach-some 64 out (2 ^ (x - 1)) (one-lt 64 x l m) in
       w .1 .least s (one-within s x l (p s g)) (g .closed) u k (q (w .0) (w .1))
 
-module _ (out firm : ℕ → ℕ) (v : ℕ) where
-  -- where a firm arc leads to
+module _ (out solids : ℕ → ℕ) (v : ℕ) where
+  -- where a solids arc leads to
   pub robust-firm :
-      (x y : ℕ) → 1 ≤ x → x ≤ 64 → 1 ≤ y → Robust out firm v x → holds (out x) y ≡ true → holds (firm x) y ≡ true → Robust out firm v y
+      (x y : ℕ) → 1 ≤ x → x ≤ 64 → 1 ≤ y → Robust out solids v x → holds (out x) y ≡ true → holds (solids x) y ≡ true → Robust out solids v y
   robust-firm x y l m k r arc sure =
       record {
         reached = led-arc out v x y l m k (r .reached) arc;
         still = λ a b la ma lb loose.
-            led-arc (cut out a b) v x y l m k (r .still a b la ma lb loose)
-            (cut-stays out a b x y lb k arc (λ p q. clash (sym (ap₂ (λ (i j : ℕ). holds (firm i) j) p q) ∙ sure) loose));
+            led-arc (arcs-without out a b) v x y l m k (r .still a b la ma lb loose)
+            (cut-stays out a b x y lb k arc (λ p q. clash (sym (ap₂ (λ (i j : ℕ). holds (solids i) j) p q) ∙ sure) loose));
       }
 
   -- where arcs of two junctions lead to
   pub robust-second :
-      (x z y : ℕ) → 1 ≤ x → x ≤ 64 → 1 ≤ z → z ≤ 64 → 1 ≤ y → (x ≡ z → ⊥) → Robust out firm v x → Robust out firm v z →
-      holds (out x) y ≡ true → holds (out z) y ≡ true → Robust out firm v y
+      (x z y : ℕ) → 1 ≤ x → x ≤ 64 → 1 ≤ z → z ≤ 64 → 1 ≤ y → (x ≡ z → ⊥) → Robust out solids v x → Robust out solids v z →
+      holds (out x) y ≡ true → holds (out z) y ≡ true → Robust out solids v y
   robust-second x z y lx mx lz mz k two rx rz from-x from-z =
       record {
         reached = led-arc out v x y lx mx k (rx .reached) from-x;
         still = λ a b la ma lb loose.
             by-bool (eqb x a)
             (λ e.
-            led-arc (cut out a b) v z y lz mz k (rz .still a b la ma lb loose)
+            led-arc (arcs-without out a b) v z y lz mz k (rz .still a b la ma lb loose)
             (cut-stays out a b z y lb k from-z (λ p q. two (eqb-true x a e ∙ sym p))))
             (λ e.
-            led-arc (cut out a b) v x y lx mx k (rx .still a b la ma lb loose)
+            led-arc (arcs-without out a b) v x y lx mx k (rx .still a b la ma lb loose)
             (cut-stays out a b x y lb k from-x (λ p q. clash (eq-eqb x a p) e)));
       }
 
   -- what is robust from a robust junction
-  pub robust-through : (x u : ℕ) → 1 ≤ x → x ≤ 64 → 1 ≤ u → Robust out firm v x → Robust out firm x u → Robust out firm v u
+  pub robust-through : (x u : ℕ) → 1 ≤ x → x ≤ 64 → 1 ≤ u → Robust out solids v x → Robust out solids x u → Robust out solids v u
   robust-through x u l m k p q =
       record {
         reached = led-through out v x u l m k (p .reached) (q .reached);
         still = λ a b la ma lb loose.
-            led-through (cut out a b) v x u l m k (p .still a b la ma lb loose) (q .still a b la ma lb loose);
+            led-through (arcs-without out a b) v x u l m k (p .still a b la ma lb loose) (q .still a b la ma lb loose);
       }
 
 -- junction x of those to do is expanded: what is sure goes into the set, and is to do where it was not there
-module _ (out firm : ℕ → ℕ) (v set todo once x sure near set′ todo′ once′ : ℕ) (from-one : 1 ≤ x) (to-last : x ≤ 64)
+module _ (out solids : ℕ → ℕ) (v set todo once x sure near set′ todo′ once′ : ℕ) (from-one : 1 ≤ x) (to-last : x ≤ 64)
     (here : holds todo x ≡ true)
-    (sure-is : (i : ℕ) → holds sure i ≡ ((holds (out x) i && (holds (firm x) i || holds once i)) || holds near i))
+    (sure-is : (i : ℕ) → holds sure i ≡ ((holds (out x) i && (holds (solids x) i || holds once i)) || holds near i))
     (set-is : (i : ℕ) → holds set′ i ≡ (holds set i || holds sure i))
     (todo-is : (i : ℕ) → 1 ≤ i → holds todo′ i ≡ ((holds todo i && not (eqb i x)) || (holds sure i && not (holds set i))))
-    (once-is : (i : ℕ) → holds once′ i ≡ (holds once i || holds (out x) i)) (near-robust : All-robust out firm x near)
-    (g : Growing out firm v set todo once) where
+    (once-is : (i : ℕ) → holds once′ i ≡ (holds once i || holds (out x) i)) (near-robust : All-robust out solids x near)
+    (g : Growing out solids v set todo once) where
   keeps : (i : ℕ) → holds set i ≡ true → holds set′ i ≡ true
   keeps i t = set-is i ∙ or-l (holds set i) (holds sure i) t
 
@@ -90,17 +90,17 @@ module _ (out firm : ℕ → ℕ) (v set todo once x sure near set′ todo′ on
   outside : (i : ℕ) → holds set′ i ≡ false → (holds set i ≡ false) × (holds sure i ≡ false)
   outside i f = let e = sym (set-is i) ∙ f in (or-false-l (holds set i) (holds sure i) e, or-false-r (holds set i) (holds sure i) e)
 
-  -- what an arc of x leads to is sure if the arc is firm, or an earlier arc leads there
-  sure-arc : (y : ℕ) → holds (out x) y ≡ true → (holds (firm x) y || holds once y) ≡ true → holds sure y ≡ true
+  -- what an arc of x leads to is sure if the arc is solids, or an earlier arc leads there
+  sure-arc : (y : ℕ) → holds (out x) y ≡ true → (holds (solids x) y || holds once y) ≡ true → holds sure y ≡ true
   sure-arc y a t =
       sure-is y
-      ∙ or-l (holds (out x) y && (holds (firm x) y || holds once y)) (holds near y) (and-i (holds (out x) y) (holds (firm x) y || holds once y) a t)
+      ∙ or-l (holds (out x) y && (holds (solids x) y || holds once y)) (holds near y) (and-i (holds (out x) y) (holds (solids x) y || holds once y) a t)
 
   in-set : holds set x ≡ true
   unfolding Within
   in-set = g .pending x from-one here
 
-  x-robust : Robust out firm v x
+  x-robust : Robust out solids v x
   x-robust = g .robust x from-one in-set
 
   done-set : (i : ℕ) → done set todo i ≡ true → holds set i ≡ true
@@ -109,20 +109,20 @@ module _ (out firm : ℕ → ℕ) (v set todo once x sure near set′ todo′ on
   done-other : (i : ℕ) → done set todo i ≡ true → x ≡ i → ⊥
   done-other i t e = clash (sym (ap (holds todo) e) ∙ here) (not-true (holds todo i) (and-r (holds set i) (not (holds todo i)) t))
 
-  sure-robust : (u : ℕ) → 1 ≤ u → holds sure u ≡ true → Robust out firm v u
+  sure-robust : (u : ℕ) → 1 ≤ u → holds sure u ≡ true → Robust out solids v u
   sure-robust u l t =
       let arc = holds (out x) u in
-      let twice = holds (firm x) u || holds once u in
+      let twice = holds (solids x) u || holds once u in
       ⊎-elim
       (λ (e : (arc && twice) ≡ true).
       let a = and-l arc twice e in
-      ⊎-elim (λ (f : holds (firm x) u ≡ true). robust-firm out firm v x u from-one to-last l x-robust a f)
+      ⊎-elim (λ (f : holds (solids x) u ≡ true). robust-firm out solids v x u from-one to-last l x-robust a f)
       (λ (o : holds once u ≡ true).
       let w = g .from u l o in
-      robust-second out firm v x (w .0) u from-one to-last (w .1) (w .2) l (done-other (w .0) (w .3)) x-robust
+      robust-second out solids v x (w .0) u from-one to-last (w .1) (w .2) l (done-other (w .0) (w .3)) x-robust
       (g .robust (w .0) (w .1) (done-set (w .0) (w .3))) a (w .4))
-      (or-cases (holds (firm x) u) (holds once u) (and-r arc twice e)))
-      (λ (e : holds near u ≡ true). robust-through out firm v x u from-one to-last l x-robust (near-robust u l e))
+      (or-cases (holds (solids x) u) (holds once u) (and-r arc twice e)))
+      (λ (e : holds near u ≡ true). robust-through out solids v x u from-one to-last l x-robust (near-robust u l e))
       (or-cases (arc && twice) (holds near u) (sym (sure-is u) ∙ t))
 
   todo-cases : (i : ℕ) → 1 ≤ i → holds todo′ i ≡ true
@@ -175,12 +175,12 @@ module _ (out firm : ℕ → ℕ) (v set todo once x sure near set′ todo′ on
 
   -- an arc of x and one of a junction that was done lead to y only if y is sure
   meet : (i y : ℕ) → 1 ≤ i → i ≤ 64 → 1 ≤ y → done set todo i ≡ true → holds (out i) y ≡ true → holds (out x) y ≡ true → holds sure y ≡ true
-  meet i y l m k d a b = sure-arc y b (or-r (holds (firm x) y) (holds once y) (g .onto i y l m k d a))
+  meet i y l m k d a b = sure-arc y b (or-r (holds (solids x) y) (holds once y) (g .onto i y l m k d a))
 
   at-x : (i y : ℕ) → i ≡ x → holds (out i) y ≡ true → holds (out x) y ≡ true
   at-x i y e a = sym (ap (λ (j : ℕ). holds (out j) y) e) ∙ a
 
-  growing-on : Growing out firm v set′ todo′ once′
+  growing-on : Growing out solids v set′ todo′ once′
   unfolding Within
   growing-on = record {
     robust = λ u l t.
@@ -190,11 +190,11 @@ module _ (out firm : ℕ → ℕ) (v set todo once x sure near set′ todo′ on
     pending = λ i l t.
         ⊎-elim (λ (e : (holds todo i ≡ true) × (eqb i x ≡ false)). keeps i (g .pending i l (e .0)))
         (λ (e : (holds sure i ≡ true) × (holds set i ≡ false)). gains i (e .0)) (todo-cases i l t);
-    firm-in = λ i y l m k d a f.
+    solid-in = λ i y l m k d a f.
         ⊎-elim
         (λ (e : i ≡ x).
-        gains y (sure-arc y (at-x i y e a) (or-l (holds (firm x) y) (holds once y) (sym (ap (λ (j : ℕ). holds (firm j) y) e) ∙ f))))
-        (λ (e : done set todo i ≡ true). keeps y (g .firm-in i y l m k e a f)) (done-cases i l d);
+        gains y (sure-arc y (at-x i y e a) (or-l (holds (solids x) y) (holds once y) (sym (ap (λ (j : ℕ). holds (solids j) y) e) ∙ f))))
+        (λ (e : done set todo i ≡ true). keeps y (g .solid-in i y l m k e a f)) (done-cases i l d);
     onto = λ i y l m k d a.
         once-is y
         ∙ ⊎-elim (λ (e : i ≡ x). or-r (holds once y) (holds (out x) y) (at-x i y e a))
@@ -216,21 +216,21 @@ module _ (out firm : ℕ → ℕ) (v set todo once x sure near set′ todo′ on
         (done-cases i li di);
   }
 
--- what is sure of a junction, from its arcs, its firm arcs, what arcs were found before, and what is known of it
-abbrev pub sure-of : (next firm once near : ℕ) → ℕ
-sure-of next firm once near = bitOr (bitAnd next (bitOr firm once)) near
+-- what is sure of a junction, from its arcs, its solids arcs, what arcs were found before, and what is known of it
+abbrev pub sure-of : (next solids once near : ℕ) → ℕ
+sure-of next solids once near = bitOr (bitAnd next (bitOr solids once)) near
 
 -- the machine's step: the lowest junction to do is expanded
 pub growing-step :
-    (out firm : ℕ → ℕ) (v set todo once next strong near : ℕ) → 0 < todo → todo < 2 ^ 64 →
-    next ≡ out (trailingZeros 64 todo + 1) → strong ≡ firm (trailingZeros 64 todo + 1) →
-    All-robust out firm (trailingZeros 64 todo + 1) near → Growing out firm v set todo once →
-    Growing out firm v (bitOr set (sure-of next strong once near)) (left-after set todo (sure-of next strong once near)) (bitOr once next)
-growing-step out firm v set todo once next strong near some fits next-is strong-is near-robust g =
+    (out solids : ℕ → ℕ) (v set todo once next strong near : ℕ) → 0 < todo → todo < 2 ^ 64 →
+    next ≡ out (trailingZeros 64 todo + 1) → strong ≡ solids (trailingZeros 64 todo + 1) →
+    All-robust out solids (trailingZeros 64 todo + 1) near → Growing out solids v set todo once →
+    Growing out solids v (bitOr set (sure-of next strong once near)) (left-after set todo (sure-of next strong once near)) (bitOr once next)
+growing-step out solids v set todo once next strong near some fits next-is strong-is near-robust g =
     let x = trailingZeros 64 todo + 1 in
     let low = lowest-is todo some fits in
     let sure = sure-of next strong once near in
-    growing-on out firm v set todo once x sure near (bitOr set sure) (left-after set todo sure) (bitOr once next) (low .from-one) (low .to-last)
+    growing-on out solids v set todo once x sure near (bitOr set sure) (left-after set todo sure) (bitOr once next) (low .from-one) (low .to-last)
     (low .in-it)
     (λ i.
     or-holds (bitAnd next (bitOr strong once)) near i

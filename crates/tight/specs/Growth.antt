@@ -4,29 +4,29 @@ use mathlib.Core.Bool.{Bool, true, false, _&&_, _||_, not}
 use mathlib.Core.List.{List}
 use Prim.Native.Nat.{ℕ, suc, _≤_, _<_}
 use lib.ListN.{length, getD}
+use Rattle.laws.specs.Lists.{at}
 use Rattle.junctions.specs.Sets.{holds, Within}
-use Rattle.digraph.specs.Adjacency.{out-of}
 use Rattle.tight.specs.Robust.{Robust, RobustSet}
 
 -- every junction of the set is robust from v
-abbrev pub All-robust : (out firm : ℕ → ℕ) → (v set : ℕ) → Type 0
-All-robust out firm v set = (u : ℕ) → 1 ≤ u → holds set u ≡ true → Robust out firm v u
+abbrev pub All-robust : (out solids : ℕ → ℕ) → (v set : ℕ) → Type 0
+All-robust out solids v set = (u : ℕ) → 1 ≤ u → holds set u ≡ true → Robust out solids v u
 
 -- what is known of each junction holds robust junctions only
-abbrev pub Known : (out firm near : ℕ → ℕ) → Type 0
-Known out firm near = (x : ℕ) → 1 ≤ x → x ≤ 64 → All-robust out firm x (near x)
+abbrev pub Known : (out solids near : ℕ → ℕ) → Type 0
+Known out solids near = (x : ℕ) → 1 ≤ x → x ≤ 64 → All-robust out solids x (near x)
 
 -- junction x is in the set, and not to do
 abbrev pub done : (set todo x : ℕ) → Bool
 done set todo x = holds set x && not (holds todo x)
 
--- A SET THAT GROWS: its junctions are robust from v, of which the set holds the arcs that are firm; `once` has all that the
+-- A SET THAT GROWS: its junctions are robust from v, of which the set holds the arcs that are solids; `once` has all that the
 -- done junctions have arcs to, and what of that is outside the set has one such arc only
-pub record Growing (out firm : ℕ → ℕ) (v set todo once : ℕ) : Type 0 where
-  pub robust : All-robust out firm v set
+pub record Growing (out solids : ℕ → ℕ) (v set todo once : ℕ) : Type 0 where
+  pub robust : All-robust out solids v set
   pub own : holds set v ≡ true
   pub pending : Within todo set
-  pub firm-in : (x y : ℕ) → 1 ≤ x → x ≤ 64 → 1 ≤ y → done set todo x ≡ true → holds (out x) y ≡ true → holds (firm x) y ≡ true → holds set y ≡ true
+  pub solid-in : (x y : ℕ) → 1 ≤ x → x ≤ 64 → 1 ≤ y → done set todo x ≡ true → holds (out x) y ≡ true → holds (solids x) y ≡ true → holds set y ≡ true
   pub onto : (x y : ℕ) → 1 ≤ x → x ≤ 64 → 1 ≤ y → done set todo x ≡ true → holds (out x) y ≡ true → holds once y ≡ true
   pub from : (y : ℕ) → 1 ≤ y → holds once y ≡ true → (x : ℕ) × (1 ≤ x) × (x ≤ 64) × (done set todo x ≡ true) × (holds (out x) y ≡ true)
   pub lone : (x z y : ℕ) → 1 ≤ x → x ≤ 64 → 1 ≤ z → z ≤ 64 → 1 ≤ y → done set todo x ≡ true → done set todo z ≡ true →
@@ -67,7 +67,7 @@ pub record Met (out : ℕ → ℕ) (set heads y : ℕ) : Type 0 where
   pub by-second : Leads out (apart set other) second y
 
 -- A PART of what is reached beside the set: it has one head, and no arc leads from it to the rest, or back
-pub record Part (out : ℕ → ℕ) (set heads all part h : ℕ) : Type 0 where
+pub record Search-part (out : ℕ → ℕ) (set heads all part h : ℕ) : Type 0 where
   pub low : 1 ≤ h
   pub head : holds heads h ≡ true
   pub here : holds part h ≡ true
@@ -77,19 +77,19 @@ pub record Part (out : ℕ → ℕ) (set heads all part h : ℕ) : Type 0 where
       (holds all y ≡ true) × (holds part y ≡ false)
 
 -- the heads lead to parts that keep apart, and all of these lie beside the set
-pub record Parted (out : ℕ → ℕ) (set heads all : ℕ) : Type 0 where
+pub record Kept-apart (out : ℕ → ℕ) (set heads all : ℕ) : Type 0 where
   pub heads-in : Within heads all
   pub beside : (y : ℕ) → 1 ≤ y → holds all y ≡ true → holds set y ≡ false
-  pub parts : (y : ℕ) → 1 ≤ y → holds all y ≡ true → (part : ℕ) × (h : ℕ) × (holds part y ≡ true) × Part out set heads all part h
+  pub parts : (y : ℕ) → 1 ≤ y → holds all y ≡ true → (part : ℕ) × (h : ℕ) × (holds part y ≡ true) × Search-part out set heads all part h
 
 -- where the searches from the heads meet, or that they keep apart
 pub record Meeting (out : ℕ → ℕ) (set heads r : ℕ) : Type 0 where
   pub met : (y : ℕ) → 1 ≤ y → holds r y ≡ true → (holds set y ≡ false) × Met out set heads y
-  pub none : r ≡ 0 → (all : ℕ) × Parted out set heads all
+  pub none : r ≡ 0 → (all : ℕ) × Kept-apart out set heads all
 
 -- of n places those from k on have the robust sets of their junctions, the others are empty
-pub record Found (arcs solid sets : List ℕ) (n k : ℕ) : Type 0 where
+pub record Robust-from (arcs solid sets : List ℕ) (n k : ℕ) : Type 0 where
   pub size : length sets ≡ 64
-  pub each : (i : ℕ) → k ≤ i → i < n → RobustSet (out-of arcs) (out-of solid) (suc i) (getD sets i 0)
+  pub each : (i : ℕ) → k ≤ i → i < n → RobustSet (at arcs) (at solid) (suc i) (getD sets i 0)
   pub before : (i : ℕ) → i < k → getD sets i 0 ≡ 0
   pub after : (i : ℕ) → n ≤ i → i < 64 → getD sets i 0 ≡ 0

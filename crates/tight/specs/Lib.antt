@@ -1,4 +1,4 @@
 pub mod Solid
 pub mod Robust
 pub mod Growth
-pub mod Firming
+pub mod SolidRows

@@ -4,10 +4,10 @@ use mathlib.Core.Bool.{Bool, _&&_, _||_}
 use mathlib.Core.List.{List}
 use Prim.Native.Nat.{ℕ, suc, _≤_}
 use lib.Dec.{eqb, leb}
+use Rattle.laws.specs.Lists.{at}
 use Rattle.laws.specs.Finite.{any-below, count-below}
 use Rattle.junctions.specs.Sets.{holds}
 use Rattle.hall.specs.Hall.{Hall, row, count}
-use Rattle.columns.specs.Columns.{at}
 
 -- row k + 1 runs from x to y
 abbrev pub forward : Hall → (x y k : ℕ) → Bool
@@ -22,5 +22,5 @@ unfoldable pub solid : Hall → (F : ℕ → Bool) → (x y : ℕ) → Bool
 solid h F x y = any-below (count h) (forward h x y) || leb 2 (count-below (count h) (backward h F x y))
 
 -- the sets hold the solid arcs of a set of rows
-unfoldable pub Firm : Hall → (F : ℕ → Bool) → (sets : List ℕ) → Type 0
-Firm h F sets = (x y : ℕ) → 1 ≤ x → x ≤ h .n → 1 ≤ y → y ≤ h .n → holds (at sets x) y ≡ solid h F x y
+unfoldable pub Solid-arcs : Hall → (F : ℕ → Bool) → (sets : List ℕ) → Type 0
+Solid-arcs h F sets = (x y : ℕ) → 1 ≤ x → x ≤ h .n → 1 ≤ y → y ≤ h .n → holds (at sets x) y ≡ solid h F x y

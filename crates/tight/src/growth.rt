@@ -4,8 +4,8 @@ ghost use mathlib.Core.Path.{_≡_};
 ghost use mathlib.Core.Bool.{true, false};
 ghost use Prim.Native.Nat.{ℕ, suc, _≤_, _<_};
 ghost use lib.Bits.{bitOr};
+ghost use Rattle.laws.specs.Lists.{at};
 ghost use Rattle.junctions.specs.Sets.{holds, Within};
-ghost use Rattle.digraph.specs.Adjacency.{out-of};
 ghost use Rattle.tight.specs.Robust.{RobustSet};
 ghost use Rattle.tight.specs.Growth.{Known, Growing, Searched, Meeting};
 
@@ -24,9 +24,9 @@ pub fn grow<'a>(
     once: u64,
     more: u64,
 ) -> Grown
-    ensures { λ r. ⌜ Within (bitOr set more) (r .set) × ((v : ℕ) → Known (out-of (now (arcs .entry))) (out-of (now (solid .entry))) (out-of (now (known .entry))) →
-        Growing (out-of (now (arcs .entry))) (out-of (now (solid .entry))) v (bitOr set more) more once →
-        Growing (out-of (now (arcs .entry))) (out-of (now (solid .entry))) v (r .set) 0 (r .once)) ⌝ }
+    ensures { λ r. ⌜ Within (bitOr set more) (r .set) × ((v : ℕ) → Known (at (now (arcs .entry))) (at (now (solid .entry))) (at (now (known .entry))) →
+        Growing (at (now (arcs .entry))) (at (now (solid .entry))) v (bitOr set more) more once →
+        Growing (at (now (arcs .entry))) (at (now (solid .entry))) v (r .set) 0 (r .once)) ⌝ }
 {
     let mut grown = set | more;
     let mut todo = more;
@@ -34,9 +34,9 @@ pub fn grow<'a>(
     while todo != 0 {
         let x = (u64::trailing_zeros(todo) as usize) + 1;
         let next = digraph::arcs(arcs, x);
-        let firm = digraph::arcs(solid, x);
+        let lasting = digraph::arcs(solid, x);
         let near = digraph::arcs(known, x);
-        let sure = (next & (firm | found)) | near;
+        let sure = (next & (lasting | found)) | near;
         let fresh = sure ^ (sure & grown);
         todo = (todo & (todo - 1)) | fresh;
         grown = grown | sure;
@@ -57,7 +57,7 @@ pub struct Seen {
 // The search from the head at a place, which goes no further from the set, until it meets the other junctions.
 pub fn search_beside(arcs: &[u64; 64], set: u64, other: u64, place: usize) -> Seen
     requires { ⌜ (place < 64) × (holds set (suc place) ≡ false) ⌝ }
-    ensures { λ r. ⌜ Searched (out-of (now (arcs .entry))) set other (suc place) (r .seen) (r .met) ⌝ }
+    ensures { λ r. ⌜ Searched (at (now (arcs .entry))) set other (suc place) (r .seen) (r .met) ⌝ }
 {
     let mut todo: u64 = 1 << place;
     let mut seen = set | todo;
@@ -75,7 +75,7 @@ pub fn search_beside(arcs: &[u64; 64], set: u64, other: u64, place: usize) -> Se
 // Junctions in which the searches from two heads meet; none where these searches keep apart.
 pub fn meeting(arcs: &[u64; 64], set: u64, heads: u64) -> u64
     requires { ⌜ ((y : ℕ) → 1 ≤ y → holds heads y ≡ true → holds set y ≡ false) ⌝ }
-    ensures { λ r. ⌜ Meeting (out-of (now (arcs .entry))) set heads r ⌝ }
+    ensures { λ r. ⌜ Meeting (at (now (arcs .entry))) set heads r ⌝ }
 {
     let mut other: u64 = 0;
     let mut rest = heads;
@@ -101,8 +101,8 @@ pub fn neighbourhood<'a>(
     v: usize,
 ) -> u64
     requires { ⌜ (1 ≤ v) × (v ≤ 64) ⌝ }
-    ensures { λ r. ⌜ (Known (out-of (now (arcs .entry))) (out-of (now (solid .entry))) (out-of (now (known .entry))) →
-        RobustSet (out-of (now (arcs .entry))) (out-of (now (solid .entry))) v r) ⌝ }
+    ensures { λ r. ⌜ (Known (at (now (arcs .entry))) (at (now (solid .entry))) (at (now (known .entry))) →
+        RobustSet (at (now (arcs .entry))) (at (now (solid .entry))) v r) ⌝ }
 {
     let mut set: u64 = 0;
     let mut once: u64 = 0;

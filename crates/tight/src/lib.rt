@@ -5,7 +5,7 @@ ghost use Prim.Native.Nat.{_≤_};
 ghost use Rattle.hall.specs.Hall.{Hall};
 ghost use Rattle.dicuts.specs.Shores.{around, Ranged, once, Joining};
 ghost use Rattle.columns.specs.Columns.{Ends, Columns, Neighbourhoods, flagged};
-ghost use Rattle.tight.specs.Solid.{Firm};
+ghost use Rattle.tight.specs.Solid.{Solid-arcs};
 
 pub mod growth;
 
@@ -18,22 +18,22 @@ pub fn solid_arcs<'a>(
     flags: &'a [bool; 256],
 ) -> [u64; 64]
     requires { ⌜ Ends n m (now tails) (now heads) ⌝ }
-    ensures { λ r. ⌜ ((h : Hall) → Columns h n m (now (tails .entry)) (now (heads .entry)) → Firm h (flagged (now (flags .entry))) r) ⌝ }
+    ensures { λ r. ⌜ ((h : Hall) → Columns h n m (now (tails .entry)) (now (heads .entry)) → Solid-arcs h (flagged (now (flags .entry))) r) ⌝ }
 {
     let mut once = [0u64; 64];
-    let mut firm = [0u64; 64];
+    let mut solid = [0u64; 64];
     let mut i: usize = 0;
     while i < m {
         let tail = (tails[i] as usize) - 1;
         let head = (heads[i] as usize) - 1;
-        firm[tail] = firm[tail] | (1 << head);
+        solid[tail] = solid[tail] | (1 << head);
         if flags[i] {
-            firm[head] = firm[head] | (once[head] & (1 << tail));
+            solid[head] = solid[head] | (once[head] & (1 << tail));
             once[head] = once[head] | (1 << tail);
         }
         i += 1;
     }
-    firm
+    solid
 }
 
 // The tight neighbourhood of one junction, for flagged rows that join the hall.

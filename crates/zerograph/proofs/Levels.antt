@@ -10,11 +10,11 @@ use lib.Dec.{eqb, leb}
 use lib.ListN.{getD, length, set, length-set, replicate, length-replicate, getD-replicate}
 use lib.Seq.{getD-set-same, getD-set-other}
 use borrow.Author.Tests.{eqb-true, eqb-false, eq-eqb, ne-eqb, leb-true, leb-false, le-leb}
+use Rattle.laws.specs.Lists.{at}
 use Rattle.laws.proofs.Booleans.{by-bool, clash, and-l, and-r, and-i, or-cases, or-l, or-r, bool-ext, not-true-false, cond-true, cond-false}
 use Rattle.laws.proofs.Connectives.{and-false-l}
 use Rattle.junctions.specs.Sets.{holds}
 use Rattle.junctions.proofs.Sets.{and-holds, none-holds, high-holds}
-use Rattle.columns.specs.Columns.{at}
 use Rattle.zerograph.specs.Levels.{Levels}
 use Rattle.zerograph.proofs.Rows.{or-at-holds}
 

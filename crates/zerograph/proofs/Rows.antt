@@ -10,12 +10,13 @@ use lib.Dec.{eqb}
 use lib.ListN.{getD, length, set, length-set, replicate, length-replicate, getD-replicate}
 use lib.Seq.{getD-set-same, getD-set-other}
 use borrow.Author.Tests.{eqb-true, eqb-false, eq-eqb}
+use Rattle.laws.specs.Lists.{at}
 use Rattle.laws.specs.Finite.{any-below}
 use Rattle.laws.proofs.Booleans.{by-bool, and-l, and-r, and-i, bool-ext}
 use Rattle.junctions.specs.Sets.{holds}
 use Rattle.junctions.proofs.Sets.{or-holds, none-holds}
 use Rattle.hall.specs.Hall.{Hall, row, count}
-use Rattle.columns.specs.Columns.{at, flagged, Columns}
+use Rattle.columns.specs.Columns.{flagged, Columns}
 use Rattle.columns.proofs.Places.{place-tail, place-head}
 use Rattle.potentials.specs.Potential.{gap}
 use Rattle.potentials.specs.ZeroGraph.{opens, closes}

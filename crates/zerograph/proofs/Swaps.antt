@@ -9,6 +9,7 @@ use lib.Bits.{bitOr}
 use lib.Dec.{eqb, leb}
 use lib.ListN.{getD, length, set, length-set}
 use borrow.Author.Tests.{eqb-true, eqb-false, ne-eqb, leb-true, leb-false}
+use Rattle.laws.specs.Lists.{at}
 use Rattle.laws.specs.Finite.{any-below}
 use Rattle.laws.proofs.Booleans.{by-bool, not-true-false, or-cases}
 use Rattle.laws.proofs.Connectives.{and-false-l, or-false-i}
@@ -19,7 +20,7 @@ use Rattle.hall.specs.Hall.{Hall, count}
 use Rattle.dicuts.specs.Shores.{around, once}
 use Rattle.dicuts.proofs.Shores.{around-lt}
 use Rattle.columns.proofs.Ranged.{columns-ranged}
-use Rattle.columns.specs.Columns.{at, Ends, Columns, Neighbourhoods}
+use Rattle.columns.specs.Columns.{Ends, Columns, Neighbourhoods}
 use Rattle.potentials.specs.ZeroGraph.{opens, closes, swaps, zero-arc, zero-arcs}
 use Rattle.potentials.proofs.Arcs.{opens-true, closes-true}
 use Rattle.zerograph.specs.Zero.{Row-arcs, Zero-graph}

@@ -5,8 +5,8 @@ use mathlib.Core.List.{List}
 use Prim.Native.Nat.{ℕ, _%_, _≤_, _<_}
 use lib.Dec.{leb, eqb}
 use lib.ListN.{getD, length}
+use Rattle.laws.specs.Lists.{at}
 use Rattle.junctions.specs.Sets.{holds}
-use Rattle.columns.specs.Columns.{at}
 
 -- the first k junctions are in: a potential that is its key's value has its junctions there, and the key of each junction has some
 pub record Levels (k : ℕ) (potential values sets : List ℕ) : Type 0 where

@@ -4,10 +4,10 @@ use mathlib.Core.Bool.{Bool, _||_}
 use mathlib.Core.List.{List}
 use Prim.Native.Nat.{ℕ, suc, _≤_, _<_}
 use lib.ListN.{length}
+use Rattle.laws.specs.Lists.{at}
 use Rattle.laws.specs.Finite.{any-below}
 use Rattle.junctions.specs.Sets.{holds}
 use Rattle.hall.specs.Hall.{Hall}
-use Rattle.columns.specs.Columns.{at}
 use Rattle.potentials.specs.ZeroGraph.{opens, closes, zero-arcs}
 
 -- the sets hold the arcs that the first k rows make

@@ -7,9 +7,10 @@ ghost use mathlib.Core.Path.{_≡_};
 ghost use mathlib.Core.Bool.{_&&_, cond};
 ghost use Prim.Native.Nat.{ℕ, _+_, _%_, _^_, _≤_, _<_};
 ghost use lib.Dec.{eqb};
+ghost use Rattle.laws.specs.Lists.{at};
 ghost use Rattle.junctions.specs.Sets.{holds};
 ghost use Rattle.hall.specs.Hall.{Hall};
-ghost use Rattle.columns.specs.Columns.{at, flagged, Ends, Columns, Neighbourhoods};
+ghost use Rattle.columns.specs.Columns.{flagged, Ends, Columns, Neighbourhoods};
 ghost use Rattle.zerograph.specs.Low.{Low};
 ghost use Rattle.zerograph.specs.Levels.{Levels};
 ghost use Rattle.zerograph.specs.Zero.{Row-arcs, Zero-graph};
@@ -24,7 +25,7 @@ pub fn no_gap(low: u64, cost: u64, high: u64) -> bool
 
 // The arcs that rows make: a movable row without a gap from its head to its tail, a chosen movable one from its tail to its head.
 pub fn row_arcs<'a>(
-    count: usize,
+    m: usize,
     tails: &'a [u8; 256],
     heads: &'a [u8; 256],
     costs: &'a [u64; 256],
@@ -32,13 +33,13 @@ pub fn row_arcs<'a>(
     chosen: &'a [bool; 256],
     potential: &'a [u64; 64],
 ) -> [u64; 64]
-    requires { ⌜ Ends 64 count (now tails) (now heads) × Low (now costs) × Low (now potential) ⌝ }
-    ensures { λ r. ⌜ ((h : Hall) (n : ℕ) → Columns h n count (now (tails .entry)) (now (heads .entry)) →
-        Row-arcs h (flagged (now (movable .entry))) (at (now (costs .entry))) (at (now (potential .entry))) (flagged (now (chosen .entry))) count r) ⌝ }
+    requires { ⌜ Ends 64 m (now tails) (now heads) × Low (now costs) × Low (now potential) ⌝ }
+    ensures { λ r. ⌜ ((h : Hall) (n : ℕ) → Columns h n m (now (tails .entry)) (now (heads .entry)) →
+        Row-arcs h (flagged (now (movable .entry))) (at (now (costs .entry))) (at (now (potential .entry))) (flagged (now (chosen .entry))) m r) ⌝ }
 {
     let mut arcs = [0u64; 64];
     let mut k: usize = 0;
-    while k < count {
+    while k < m {
         let tail = place(tails[k]);
         let head = place(heads[k]);
         let opens = no_gap(potential[tail], costs[k], potential[head]);
@@ -124,7 +125,7 @@ fn same_level<'a>(
 // The zero graph: the arcs of rows, and of swaps within tight neighbourhoods at the same potential.
 pub fn zero_graph<'a>(
     n: usize,
-    count: usize,
+    m: usize,
     tails: &'a [u8; 256],
     heads: &'a [u8; 256],
     costs: &'a [u64; 256],
@@ -133,12 +134,12 @@ pub fn zero_graph<'a>(
     potential: &'a [u64; 64],
     around: &'a [u64; 64],
 ) -> [u64; 64]
-    requires { ⌜ Ends n count (now tails) (now heads) × Low (now costs) × Low (now potential) ⌝ }
-    ensures { λ r. ⌜ ((h : Hall) → Columns h n count (now (tails .entry)) (now (heads .entry)) →
+    requires { ⌜ Ends n m (now tails) (now heads) × Low (now costs) × Low (now potential) ⌝ }
+    ensures { λ r. ⌜ ((h : Hall) → Columns h n m (now (tails .entry)) (now (heads .entry)) →
         Neighbourhoods h (flagged (now (chosen .entry))) (now (around .entry)) →
         Zero-graph h (flagged (now (movable .entry))) (at (now (costs .entry))) (at (now (potential .entry))) (flagged (now (chosen .entry))) r) ⌝ }
 {
-    let mut arcs = row_arcs(count, tails, heads, costs, movable, chosen, potential);
+    let mut arcs = row_arcs(m, tails, heads, costs, movable, chosen, potential);
     let mut values = [0u64; 128];
     let mut sets = [0u64; 128];
     fill_levels(n, potential, &mut values, &mut sets);

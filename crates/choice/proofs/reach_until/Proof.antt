@@ -3,8 +3,8 @@
 use Prim.Native.Nat.{_^_, _<_}
 use native.Mathlib.Omega.{arith}
 use lib.Count.{trailing-le}
+use Rattle.laws.specs.Lists.{at}
 use Rattle.junctions.proofs.Bits.{trailing-lt}
-use Rattle.digraph.specs.Adjacency.{out-of}
 use Rattle.digraph.specs.Search.{Searching, unexpanded}
 use Rattle.digraph.proofs.Search.{search-start, search-end}
 use Rattle.digraph.proofs.Expand.{expand-fits, expand-step, expand-less}
@@ -13,7 +13,7 @@ use Rattle.choice.proofs.reach_until.Statement.{statement}
 use Rattle.choice.proofs.reach_until.Tie as tie
 
 abbrev Inv-loop : tie.InvT-loop
-Inv-loop adjacency start goal reached₀ todo₀ reached todo = (todo < 2 ^ 64) × Searching 64 (out-of adjacency) start reached todo
+Inv-loop adjacency start goal reached₀ todo₀ reached todo = (todo < 2 ^ 64) × Searching 64 (at adjacency) start reached todo
 
 abbrev μ-loop : tie.MeasureT-loop
 μ-loop adjacency start goal reached₀ todo₀ reached todo = unexpanded 64 reached todo
@@ -23,7 +23,7 @@ abbrev at-loop : tie.Else1 Inv-loop μ-loop → tie.At-loop Inv-loop μ-loop
 at-loop c = c .before .before
 
 loop-holds : tie.Need-loop-holds Inv-loop μ-loop
-loop-holds c = (omega arith, search-start 64 (out-of (c .args .adjacency .now)) (c .args .start))
+loop-holds c = (omega arith, search-start 64 (at (c .args .adjacency .now)) (c .args .start))
 
 returns : tie.Need-returns Inv-loop μ-loop
 returns c = record { least = c .before .before .loop .inv .1 .least; whole = λ e. absurd (c .if1 .taken e) }
@@ -42,17 +42,17 @@ sub-todo c = search needs
 
 loop-less : tie.Need-loop-less Inv-loop μ-loop
 loop-less c = let l = at-loop (c .before) .loop in let a = at-loop (c .before) .before .args in
-    expand-less (out-of (a .adjacency .now)) (a .start) (l .reached) (l .todo) (c .arcs .result) (omega arith) (l .inv .0) (c .arcs .ensures) (l .inv .1)
+    expand-less (at (a .adjacency .now)) (a .start) (l .reached) (l .todo) (c .arcs .result) (omega arith) (l .inv .0) (c .arcs .ensures) (l .inv .1)
 
 loop-again : tie.Need-loop-again Inv-loop μ-loop
 loop-again c = let l = at-loop (c .before) .loop in let a = at-loop (c .before) .before .args in (
   expand-fits (l .reached) (l .todo) (c .arcs .result) (l .inv .0) (omega (arith, c .arcs .ok)),
-  expand-step (out-of (a .adjacency .now)) (a .start) (l .reached) (l .todo) (c .arcs .result) (omega arith) (l .inv .0) (c .arcs .ensures) (l .inv .1),
+  expand-step (at (a .adjacency .now)) (a .start) (l .reached) (l .todo) (c .arcs .result) (omega arith) (l .inv .0) (c .arcs .ensures) (l .inv .1),
 )
 
 returns-2 : tie.Need-returns-2 Inv-loop μ-loop
 returns-2 c = let l = c .before .loop in let a = c .before .before .args in
-    record { least = l .inv .1 .least; whole = λ _. search-end 64 (out-of (a .adjacency .now)) (a .start) (l .reached) (l .todo) (omega arith) (l .inv .1) }
+    record { least = l .inv .1 .least; whole = λ _. search-end 64 (at (a .adjacency .now)) (a .start) (l .reached) (l .todo) (omega arith) (l .inv .1) }
 
 pub reach-until-spec : {M : Type 1} → statement M
 reach-until-spec =

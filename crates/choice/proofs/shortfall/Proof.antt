@@ -7,9 +7,9 @@ use Prim.Native.Nat.{ℕ, suc, _≤_, _-_, _^_}
 use native.Mathlib.Omega.{arith}
 use lib.Pow.{pow-pos}
 use borrow.Author.Tests.{eqb-true, eqb-false, not-true, not-false}
+use Rattle.laws.specs.Lists.{at}
 use Rattle.junctions.specs.Sets.{full}
 use Rattle.junctions.proofs.Bits.{one-shl}
-use Rattle.digraph.specs.Adjacency.{out-of}
 use Rattle.digraph.specs.Closure.{closure}
 use Rattle.choice.specs.Short.{short-from}
 use Rattle.choice.proofs.Short.{Known, known-more, short-more, short-stop, short-end, reach-is-closure, met-full}
@@ -19,10 +19,10 @@ use Rattle.choice.proofs.shortfall.Tie as tie
 
 -- what each junction reaches
 abbrev from-each : ℕ → List ℕ → ℕ → ℕ
-from-each n adjacency j = closure n (out-of adjacency) (2 ^ (j - 1))
+from-each n adjacency j = closure n (at adjacency) (2 ^ (j - 1))
 
 abbrev Inv-loop : tie.InvT-loop
-Inv-loop adjacency n all j₀ j = (j ≤ n) × (short-from (n - j) (suc j) (full n) (from-each n adjacency) ≡ short-from n 1 (full n) (from-each n adjacency)) × Known n (out-of adjacency) j
+Inv-loop adjacency n all j₀ j = (j ≤ n) × (short-from (n - j) (suc j) (full n) (from-each n adjacency) ≡ short-from n 1 (full n) (from-each n adjacency)) × Known n (at adjacency) j
 
 abbrev μ-loop : tie.MeasureT-loop
 μ-loop adjacency n all j₀ j = n - j
@@ -55,7 +55,7 @@ reach-until-requires c κs = search needs
 
 returns : tie.Need-returns Inv-loop μ-loop
 returns c = let g = c .before .before in let l = at-loop (in-loop g) in let s = at-start l in let f = from-each (s .args .n) (s .args .adjacency .now) in let t = in-loop g .loop-test .taken in
-    let got = reach-is-closure (s .args .n) (out-of (s .args .adjacency .now)) (l .loop .j) (g .reach-until .result) (s .pre .0) (s .pre .1) t (g .reach-until .ensures .whole (c .before .if1 .taken)) in
+    let got = reach-is-closure (s .args .n) (at (s .args .adjacency .now)) (l .loop .j) (g .reach-until .result) (s .pre .0) (s .pre .1) t (g .reach-until .ensures .whole (c .before .if1 .taken)) in
     got ∙ sym (short-stop (full (s .args .n)) f (s .args .n) (l .loop .j) t (λ e. eqb-false _ _ (not-true _ (c .if2 .taken)) (got ∙ e ∙ sym (l .before .full .ensures)))) ∙ l .loop .inv .1
 
 add-j : tie.Need-add-j Inv-loop μ-loop
@@ -65,7 +65,7 @@ loop-less : tie.Need-loop-less Inv-loop μ-loop
 loop-less c = search needs
 
 loop-again : tie.Need-loop-again Inv-loop μ-loop
-loop-again c = let g = c .before in let l = at-loop (in-loop g) in let s = at-start l in let n = s .args .n in let out = out-of (s .args .adjacency .now) in let j = l .loop .j in
+loop-again c = let g = c .before in let l = at-loop (in-loop g) in let s = at-start l in let n = s .args .n in let out = at (s .args .adjacency .now) in let j = l .loop .j in
     let t = in-loop g .loop-test .taken in
     let got = g .reach-until in
     let all-reached : from-each n (s .args .adjacency .now) (suc j) ≡ full n =

@@ -50,7 +50,7 @@ use denote.Exit.{yes}
 use denote.Triple.Clauses.{ensured, lasts}
 use Rattle.cutlist.specs.declared.Cut.{Cut}
 use Rattle.cutlist.specs.declared.Lists.{Lists}
-use Rattle.cutlist.specs.Cuts.{lent-cut, listed}
+use Rattle.cutlist.specs.Cuts.{lent-cut, listed-cut}
 use Rattle.cutlist.proofs.Front.{front, front-none, front-more, front-size}
 use Rattle.cutlist.proofs.Cut as C
 use Rattle.cutlist.proofs.Cut.Laws as C′
@@ -137,8 +137,8 @@ module _ {M : Type 1} (𝓤 : URA M) (H : Heap 𝓤) (A : Atoms 𝓤) (W : Given
         qed W [] ∵ says ! (lt-of-lt-of-le h few) $ nothing ! $ frame ! $ nothing ! $ owned ! usize (Is usize) (uint-makes 𝓤 H A W w64) k _ (refl, omega (arith, h, n-fits)) $ fjoin ! $
         owned ! L.the-row (Is L.the-row) (LL.makes L.the-type L′.the-plain 𝓤 H A) ls _ is-lists $ fjoin ! $ done !
 
-    said : (k : ℕ) (r : Cut) → ent 𝓤 (ensured 𝓤 H A cut-at.ended (cut-at.clauses 𝓤 H A mem run) tt (ls, (k, tt)) tt r) (fact 𝓤 (r ≡ listed ls k))
-    said k r = exE 𝓤 _ (λ ws. snd∗ 𝓤 (sem 𝓤 H A (lasts cut-at.ended tt (ls, (k, tt)) ws)) (fact 𝓤 (r ≡ listed ls k)))
+    said : (k : ℕ) (r : Cut) → ent 𝓤 (ensured 𝓤 H A cut-at.ended (cut-at.clauses 𝓤 H A mem run) tt (ls, (k, tt)) tt r) (fact 𝓤 (r ≡ listed-cut ls k))
+    said k r = exE 𝓤 _ (λ ws. snd∗ 𝓤 (sem 𝓤 H A (lasts cut-at.ended tt (ls, (k, tt)) ws)) (fact 𝓤 (r ≡ listed-cut ls k)))
 
     typed : (r : Cut) (u : Val) → Is R r (u ∷ []) → Holds (hasTy C′.mir u) × WT u
     typed r u is = LL.lawful C.the-type C′.the-laws 𝓤 H A W .typed r (u ∷ []) is .0
@@ -178,7 +178,7 @@ module _ {M : Type 1} (𝓤 : URA M) (H : Heap 𝓤) (A : Atoms 𝓤) (W : Given
           (λ yet. use0 W (raw (CutAt 𝓤 H A mem run .pre (to (i .0)))) (asked (i .0) (ltb→lt (i .0) n yet)) $
           calls-at ! (fmOf 𝓤 H (W .laws) 𝓣) (CutAt 𝓤 H A mem run) known (to (i .0)) (and-then ! (load ! (from ! (stop !)) (look ! 8 refl)) (and-then ! (load ! (from ! (stop !)) (look ! 2 refl)) (no-more !))) (λ u.
           use1 W (later (some (λ (r : Cut). (‵ ftrue ⊛ ‵ (R .own r (u ∷ []))) ⊛ raw (ensured 𝓤 H A cut-at.ended (cut-at.clauses 𝓤 H A mem run) tt (ls, (i .0, tt)) tt r)))) (id⊢ 𝓤 _) $ await ! tt $ pick ! (λ r.
-          split ! $ move ! (1 ∷ []) $ use1 W (raw (fact 𝓤 (r ≡ listed ls (i .0)))) (said (i .0) r) $ heard ! (r ≡ listed ls (i .0)) (λ e. split ! $ dropped ! $
+          split ! $ move ! (1 ∷ []) $ use1 W (raw (fact 𝓤 (r ≡ listed-cut ls (i .0)))) (said (i .0) r) $ heard ! (r ≡ listed-cut ls (i .0)) (λ e. split ! $ dropped ! $
           -- [what the cut owns; the row; _4; room for _5; _6; _7; _8; _1; _2; _3; room for _0; …]
           peeks ! R (Is R) (shows 𝓤 H A R) r (u ∷ []) (λ is.
           land ! (from ! (stop !)) (init ! 4 refl (typed r u is)) $

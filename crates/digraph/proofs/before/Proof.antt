@@ -3,15 +3,14 @@ use mathlib.Core.Path.{sym, _∙_}
 use Prim.Native.Nat.{_≤_, _-_}
 use native.Mathlib.Omega.{arith}
 use borrow.Author.Tests.{not-true, not-false}
-use Rattle.digraph.specs.Adjacency.{out-of}
-use Rattle.digraph.specs.Layers.{distance-of}
-use Rattle.digraph.specs.Turns.{Ahead}
+use Rattle.laws.specs.Lists.{at}
+use Rattle.digraph.specs.Turns.{Before-from}
 use Rattle.digraph.proofs.Backward.{test-before, ahead-next}
 use Rattle.digraph.proofs.before.Statement.{statement}
 use Rattle.digraph.proofs.before.Tie as tie
 
 abbrev Inv-loop : tie.InvT-loop
-Inv-loop adjacency distances y x₀ x = (1 ≤ x) × Ahead 64 (out-of adjacency) (distance-of distances) y x
+Inv-loop adjacency distances y x₀ x = (1 ≤ x) × Before-from 64 (at adjacency) (at distances) y x
 
 abbrev μ-loop : tie.MeasureT-loop
 μ-loop adjacency distances y x₀ x = 65 - x
@@ -38,11 +37,11 @@ loop-less c = omega (arith, in-hall (at-loop c))
 
 loop-again : tie.Need-loop-again Inv-loop μ-loop
 loop-again c = let l = at-loop c .loop in let a = at-loop c .before .args in
-    (omega arith, ahead-next 64 (out-of (a .adjacency .now)) (distance-of (a .distances .now)) (a .y) (l .x) (sym (c .before .is-before .ensures) ∙ not-true (c .before .is-before .result) (c .if1 .taken)) (l .inv .1))
+    (omega arith, ahead-next 64 (at (a .adjacency .now)) (at (a .distances .now)) (a .y) (l .x) (sym (c .before .is-before .ensures) ∙ not-true (c .before .is-before .result) (c .if1 .taken)) (l .inv .1))
 
 returns : tie.Need-returns Inv-loop μ-loop
 returns c = let at-loop = c .before .before in let l = at-loop .loop in let a = at-loop .before .args in
-    test-before (out-of (a .adjacency .now)) (distance-of (a .distances .now)) (a .y) (l .x) 64 (l .inv .0) (in-hall at-loop)
+    test-before (at (a .adjacency .now)) (at (a .distances .now)) (a .y) (l .x) 64 (l .inv .0) (in-hall at-loop)
     (sym (c .before .is-before .ensures) ∙ not-false (c .before .is-before .result) (c .if1 .left))
 
 pub before-spec : {M : Type 1} → statement M

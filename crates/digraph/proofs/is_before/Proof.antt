@@ -1,7 +1,6 @@
 -- `digraph::is_before` is the test whether x is one arc before y and one less far: it compares the two distances, and where they fit it looks for the arc. Assumes nothing.
 use borrow.Author.Needs.{needs}
-use Rattle.digraph.specs.Adjacency.{out-of}
-use Rattle.digraph.specs.Layers.{distance-of}
+use Rattle.laws.specs.Lists.{at}
 use Rattle.digraph.proofs.Backward.{before-close, before-far}
 use Rattle.digraph.proofs.is_before.Statement.{statement}
 use Rattle.digraph.proofs.is_before.Tie as tie
@@ -39,12 +38,12 @@ shr-result c = search needs
 
 returns : tie.Need-returns
 returns c = let far = at-far c in let near = far .before in let a = at-start far .args in
-    before-close (out-of (a .adjacency .now)) (distance-of (a .distances .now)) (a .y) (a .x)
+    before-close (at (a .adjacency .now)) (at (a .distances .now)) (a .y) (a .x)
     (near .distance .result) (far .distance2 .result) (c .arcs .result) (near .distance .ensures) (far .distance2 .ensures) (c .before .if1 .taken) (c .arcs .ensures)
 
 returns-2 : tie.Need-returns-2
 returns-2 c = let far = c .before in let near = far .before in let a = at-start far .args in
-    before-far (out-of (a .adjacency .now)) (distance-of (a .distances .now)) (a .y) (a .x)
+    before-far (at (a .adjacency .now)) (at (a .distances .now)) (a .y) (a .x)
     (near .distance .result) (far .distance2 .result) (near .distance .ensures) (far .distance2 .ensures) (c .if1 .left)
 
 pub is-before-spec : {M : Type 1} → statement M

@@ -4,8 +4,8 @@ use Prim.Native.Nat.{_^_, _<_}
 use native.Mathlib.Omega.{arith}
 use lib.Count.{trailing-le}
 use borrow.Author.Needs.{needs}
+use Rattle.laws.specs.Lists.{at}
 use Rattle.junctions.proofs.Bits.{trailing-lt}
-use Rattle.digraph.specs.Adjacency.{out-of}
 use Rattle.digraph.specs.Search.{Searching, unexpanded}
 use Rattle.digraph.proofs.Search.{search-start, search-end}
 use Rattle.digraph.proofs.Expand.{expand-fits, expand-step, expand-less}
@@ -13,7 +13,7 @@ use Rattle.digraph.proofs.reach.Statement.{statement}
 use Rattle.digraph.proofs.reach.Tie as tie
 
 abbrev Inv-loop : tie.InvT-loop
-Inv-loop adjacency start reached₀ todo₀ reached todo = (todo < 2 ^ 64) × Searching 64 (out-of adjacency) start reached todo
+Inv-loop adjacency start reached₀ todo₀ reached todo = (todo < 2 ^ 64) × Searching 64 (at adjacency) start reached todo
 
 abbrev μ-loop : tie.MeasureT-loop
 μ-loop adjacency start reached₀ todo₀ reached todo = unexpanded 64 reached todo
@@ -23,7 +23,7 @@ abbrev at-loop : tie.After-arcs Inv-loop μ-loop → tie.At-loop Inv-loop μ-loo
 at-loop c = c .before .before
 
 loop-holds : tie.Need-loop-holds Inv-loop μ-loop
-loop-holds c = (omega arith, search-start 64 (out-of (c .args .adjacency .now)) (c .args .start))
+loop-holds c = (omega arith, search-start 64 (at (c .args .adjacency .now)) (c .args .start))
 
 cast-next : tie.Need-cast-next Inv-loop μ-loop
 cast-next c = record { fits = omega (arith, trailing-le 64 (c .before .loop .todo)) }
@@ -39,17 +39,17 @@ sub-todo c = search needs
 
 loop-less : tie.Need-loop-less Inv-loop μ-loop
 loop-less c = let l = at-loop c .loop in let a = at-loop c .before .args in
-    expand-less (out-of (a .adjacency .now)) (a .start) (l .reached) (l .todo) (c .arcs .result) (omega arith) (l .inv .0) (c .arcs .ensures) (l .inv .1)
+    expand-less (at (a .adjacency .now)) (a .start) (l .reached) (l .todo) (c .arcs .result) (omega arith) (l .inv .0) (c .arcs .ensures) (l .inv .1)
 
 loop-again : tie.Need-loop-again Inv-loop μ-loop
 loop-again c = let l = at-loop c .loop in let a = at-loop c .before .args in (
   expand-fits (l .reached) (l .todo) (c .arcs .result) (l .inv .0) (omega (arith, c .arcs .ok)),
-  expand-step (out-of (a .adjacency .now)) (a .start) (l .reached) (l .todo) (c .arcs .result) (omega arith) (l .inv .0) (c .arcs .ensures) (l .inv .1),
+  expand-step (at (a .adjacency .now)) (a .start) (l .reached) (l .todo) (c .arcs .result) (omega arith) (l .inv .0) (c .arcs .ensures) (l .inv .1),
 )
 
 returns : tie.Need-returns Inv-loop μ-loop
 returns c = let l = c .before .loop in let a = c .before .before .args in
-    search-end 64 (out-of (a .adjacency .now)) (a .start) (l .reached) (l .todo) (omega arith) (l .inv .1)
+    search-end 64 (at (a .adjacency .now)) (a .start) (l .reached) (l .todo) (omega arith) (l .inv .1)
 
 pub reach-spec : {M : Type 1} → statement M
 reach-spec =

@@ -4,16 +4,16 @@ use Prim.Native.Nat.{_^_, _<_}
 use native.Mathlib.Omega.{arith}
 use lib.Count.{trailing-le}
 use borrow.Author.Needs.{needs}
+use Rattle.laws.specs.Lists.{at}
 use Rattle.junctions.proofs.Bits.{trailing-lt}
 use Rattle.junctions.proofs.Words.{clear-less}
-use Rattle.digraph.specs.Adjacency.{out-of}
 use Rattle.digraph.specs.Turns.{Spreading}
 use Rattle.digraph.proofs.Rest.{spread-start, spread-step, spread-end}
 use Rattle.digraph.proofs.spread.Statement.{statement}
 use Rattle.digraph.proofs.spread.Tie as tie
 
 abbrev Inv-loop : tie.InvT-loop
-Inv-loop adjacency from found₀ rest₀ found rest = (rest < 2 ^ 64) × Spreading (out-of adjacency) from found rest
+Inv-loop adjacency from found₀ rest₀ found rest = (rest < 2 ^ 64) × Spreading (at adjacency) from found rest
 
 abbrev μ-loop : tie.MeasureT-loop
 μ-loop adjacency from found₀ rest₀ found rest = rest
@@ -23,7 +23,7 @@ abbrev at-loop : tie.After-arcs Inv-loop μ-loop → tie.At-loop Inv-loop μ-loo
 at-loop c = c .before .before
 
 loop-holds : tie.Need-loop-holds Inv-loop μ-loop
-loop-holds c = (omega arith, spread-start (out-of (c .args .adjacency .now)) (c .args .from))
+loop-holds c = (omega arith, spread-start (at (c .args .adjacency .now)) (c .args .from))
 
 cast-next : tie.Need-cast-next Inv-loop μ-loop
 cast-next c = record { fits = omega (arith, trailing-le 64 (c .before .loop .rest)) }
@@ -43,12 +43,12 @@ loop-less c = clear-less (at-loop c .loop .rest) (omega arith)
 loop-again : tie.Need-loop-again Inv-loop μ-loop
 loop-again c = let l = at-loop c .loop in let a = at-loop c .before .args in (
   omega (arith, clear-less (l .rest) (omega arith)),
-  spread-step (out-of (a .adjacency .now)) (a .from) (l .found) (l .rest) (c .arcs .result) (omega arith) (l .inv .0) (c .arcs .ensures) (l .inv .1),
+  spread-step (at (a .adjacency .now)) (a .from) (l .found) (l .rest) (c .arcs .result) (omega arith) (l .inv .0) (c .arcs .ensures) (l .inv .1),
 )
 
 returns : tie.Need-returns Inv-loop μ-loop
 returns c = let l = c .before .loop in let a = c .before .before .args in
-    spread-end (out-of (a .adjacency .now)) (a .from) (l .found) (l .rest) (omega arith) (l .inv .1)
+    spread-end (at (a .adjacency .now)) (a .from) (l .found) (l .rest) (omega arith) (l .inv .1)
 
 pub spread-spec : {M : Type 1} → statement M
 spread-spec =

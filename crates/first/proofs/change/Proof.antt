@@ -7,9 +7,8 @@ use lib.ListN.{getD}
 use mir.Syntax.{w64}
 use mir.Val.{Fits}
 use borrow.Author.Needs.{needs}
+use Rattle.laws.specs.Lists.{at}
 use Rattle.junctions.proofs.Bits.{one-shl}
-use Rattle.digraph.specs.Adjacency.{out-of}
-use Rattle.digraph.specs.Layers.{distance-of}
 use Rattle.digraph.specs.Reach.{Reach}
 use Rattle.digraph.proofs.Paths.{reached-near}
 use Rattle.columns.proofs.Ranged.{ends-wide}
@@ -61,7 +60,7 @@ flip-requires c κs =
     let z = at-graph r in
     let s = z .before in
     let a = s .args in
-    let start : Reach 64 (out-of (z .zero-graph .result)) (2 ^ (a .tail + 1 - 1)) (r .reach .result) =
+    let start : Reach 64 (at (z .zero-graph .result)) (2 ^ (a .tail + 1 - 1)) (r .reach .result) =
     let place : a .tail + 1 - 1 ≡ a .tail = omega arith in rw place (rw (one-shl (a .tail) (s .pre .6)) at (r .reach .ensures)) in (
       ends-wide (a .n) (a .m) (a .tails .now) (a .heads .now) (s .pre .0),
       s .pre .1,
@@ -69,7 +68,7 @@ flip-requires c κs =
       d .distances .ensures,
       omega arith,
       omega arith,
-      reached-near 64 (out-of (z .zero-graph .result)) (a .tail + 1) (distance-of (d .distances .result)) (d .distances .ensures) (omega arith) (omega arith)
+      reached-near 64 (at (z .zero-graph .result)) (a .tail + 1) (at (d .distances .result)) (d .distances .ensures) (omega arith) (omega arith)
           (λ j l u. words (j - 1) .fits) (r .reach .result) start (a .head + 1) (omega arith) (rw (add-one (a .head)) (sym (f .has .ensures) ∙ i .if1 .taken)),
       omega (arith, s .pre .0 .few),
       s .pre .3,
@@ -93,7 +92,7 @@ returns c =
           let next =
           flipped-in h rg (a .n) (a .m) (a .tails .now) (a .heads .now) (p .0 .size) (p .0 .few) cols (a .k) (p .4) (a .tail) (a .head) (p .5) (p .7)
           (a .costs .now) (a .potential .now) (a .movable .now) (a .chosen .now) later (so-far .deciding) (z .zero-graph .result) graph
-          (distance-of (d .distances .result)) (rw (add-one (a .tail)) at (d .distances .ensures)) (p .9) (w .0)
+          (at (d .distances .result)) (rw (add-one (a .tail)) at (d .distances .ensures)) (p .9) (w .0)
           (rw (add-one (a .tail), add-one (a .head)) at (w .1)) (x .flip .result) (w .2) in
           record { deciding = next; around = y .neighbourhoods .ensures h cols rg (next .joining) },
       λ j. omega arith,

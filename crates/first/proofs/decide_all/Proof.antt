@@ -7,11 +7,12 @@ use native.Mathlib.Numerals.{add-one}
 use native.Mathlib.Omega.{arith}
 use lib.ListN.{length, getD, length-set}
 use borrow.Author.Needs.{needs}
+use Rattle.laws.specs.Lists.{at}
 use Rattle.hall.specs.Hall.{Hall}
 use Rattle.dicuts.specs.Shores.{Ranged}
 use Rattle.potentials.specs.Repair.{Repaired}
 use Rattle.order.specs.Ranked.{ranked}
-use Rattle.columns.specs.Columns.{at, flagged, Columns, Neighbourhoods}
+use Rattle.columns.specs.Columns.{flagged, Columns, Neighbourhoods}
 use Rattle.columns.proofs.Ranged.{ends-wide}
 use Rattle.first.specs.Standing.{Movable, Standing}
 use Rattle.first.proofs.Steps.{gap-none, stays}

@@ -18,10 +18,10 @@ use Rattle.flip.proofs.closing.Statement.{statement}
 use Rattle.flip.proofs.closing.Tie as tie
 
 abbrev Inv-loop : tie.InvT-loop
-Inv-loop count tails heads movable chosen x y k₀ k = (k ≤ count) × ((h : Hall) (n : ℕ) → Columns h n count tails heads → (i : ℕ) → i < k → closes h (flagged movable) (flagged chosen) x y (suc i) ≡ false)
+Inv-loop m tails heads movable chosen x y k₀ k = (k ≤ m) × ((h : Hall) (n : ℕ) → Columns h n m tails heads → (i : ℕ) → i < k → closes h (flagged movable) (flagged chosen) x y (suc i) ≡ false)
 
 abbrev μ-loop : tie.MeasureT-loop
-μ-loop count tails heads movable chosen x y k₀ k = count - k
+μ-loop m tails heads movable chosen x y k₀ k = m - k
 
 -- the places of the code: the row of a turn and its ends, from the ones after them
 abbrev at-row : tie.After-place2 Inv-loop μ-loop → tie.In-loop Inv-loop μ-loop
@@ -73,19 +73,19 @@ module _ (c : tie.After-may2 Inv-loop μ-loop) where
   abbrev head : ℕ
   head = at-ends c .place2 .result
 
-  closes-row : (h : Hall) (n : ℕ) → Columns h n (start .args .count) (start .args .tails .now) (start .args .heads .now) →
+  closes-row : (h : Hall) (n : ℕ) → Columns h n (start .args .m) (start .args .tails .now) (start .args .heads .now) →
       (eqb (start .args .x - 1) tail && ((getD (start .args .movable .now) row false && getD (start .args .chosen .now) row false) && eqb (start .args .y) (head + 1)))
       ≡ closes h (flagged (start .args .movable .now)) (flagged (start .args .chosen .now)) (start .args .x) (start .args .y) (suc row)
   closes-row h n cols =
       let a = start .args in let from = at-ends c .before .before .place in let to = at-ends c .place2 in
       rw (add-one head)
-      (closes-here h n (a .count) (a .tails .now) (a .heads .now) [] (a .movable .now) (a .chosen .now) [] cols row tail head (at-row (at-ends c) .loop-test .taken) (from .ensures .0) (to .ensures .0)
+      (closes-here h n (a .m) (a .tails .now) (a .heads .now) [] (a .movable .now) (a .chosen .now) [] cols row tail head (at-row (at-ends c) .loop-test .taken) (from .ensures .0) (to .ensures .0)
       (a .x) (a .y) (start .pre .1))
 
 returns : tie.Need-returns Inv-loop μ-loop
 returns c =
     let row = at-row (at-ends (c .before)) in let l = row .before .loop in let a = row .before .before .args in
-    λ h n cols. sym (first-more (a .count) (λ i. closes h (flagged (a .movable .now)) (flagged (a .chosen .now)) (a .x) (a .y) (suc i)) (l .k) (row .loop-test .taken) (l .inv .1 h n cols) (sym (closes-row (c .before) h n cols) ∙ c .if1 .taken))
+    λ h n cols. sym (first-more (a .m) (λ i. closes h (flagged (a .movable .now)) (flagged (a .chosen .now)) (a .x) (a .y) (suc i)) (l .k) (row .loop-test .taken) (l .inv .1 h n cols) (sym (closes-row (c .before) h n cols) ∙ c .if1 .taken))
 
 add-k : tie.Need-add-k Inv-loop μ-loop
 add-k c = search needs
@@ -102,7 +102,7 @@ loop-again c =
 
 returns-2 : tie.Need-returns-2 Inv-loop μ-loop
 returns-2 c = let l = c .before in let a = l .before .args in λ h n cols.
-    sym (first-none (a .count) (λ i. closes h (flagged (a .movable .now)) (flagged (a .chosen .now)) (a .x) (a .y) (suc i)) (λ i less. l .loop .inv .1 h n cols i (omega arith)))
+    sym (first-none (a .m) (λ i. closes h (flagged (a .movable .now)) (flagged (a .chosen .now)) (a .x) (a .y) (suc i)) (λ i less. l .loop .inv .1 h n cols i (omega arith)))
 
 pub closing-spec : {M : Type 1} → statement M
 closing-spec =

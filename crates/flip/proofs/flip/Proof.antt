@@ -6,13 +6,12 @@ use lib.Dec.{eqb}
 use lib.ListN.{length}
 use borrow.Author.Tests.{eqb-true}
 use borrow.Author.Needs.{needs}
+use Rattle.laws.specs.Lists.{at}
 use Rattle.laws.proofs.Booleans.{tests, by-bool}
 use Rattle.digraph.specs.Paths.{Distances}
-use Rattle.digraph.specs.Adjacency.{out-of}
-use Rattle.digraph.specs.Layers.{distance-of}
 use Rattle.digraph.proofs.Layers.{before-there}
 use Rattle.hall.specs.Hall.{Hall}
-use Rattle.columns.specs.Columns.{at, flagged, Columns}
+use Rattle.columns.specs.Columns.{flagged, Columns}
 use Rattle.zerograph.specs.Zero.{Zero-graph}
 use Rattle.flip.proofs.Flips.{zero-inside, Walking, walking-start, walking-more, walking-end}
 use Rattle.flip.proofs.flip.Statement.{statement}
@@ -23,12 +22,12 @@ farther : (n : ℕ) (out : ℕ → ℕ) (start : ℕ) (dist : ℕ → ℕ) → D
 farther n out start dist d y l u other = by-bool (eqb (dist y) 0) (λ e. absurd (other (d .alone y l u (eqb-true (dist y) 0 e)))) (λ e. omega tests)
 
 abbrev Inv-loop : tie.InvT-loop
-Inv-loop count tails heads costs movable chosen potential adjacency distances start target row opened flags₀ y₀ flags y = (1 ≤ y) × (y ≤ 64) × (distance-of distances y < 64) × (length flags ≡ 256)
-    × ((h : Hall) (n : ℕ) → Columns h n count tails heads → Zero-graph h (flagged movable) (at costs) (at potential) (flagged chosen) adjacency → target ≤ h .n →
-    (y ≤ h .n) × Walking h (flagged movable) (at costs) (at potential) (flagged chosen) (distance-of distances) target y (flagged flags))
+Inv-loop m tails heads costs movable chosen potential adjacency distances start target row opened flags₀ y₀ flags y = (1 ≤ y) × (y ≤ 64) × (at distances y < 64) × (length flags ≡ 256)
+    × ((h : Hall) (n : ℕ) → Columns h n m tails heads → Zero-graph h (flagged movable) (at costs) (at potential) (flagged chosen) adjacency → target ≤ h .n →
+    (y ≤ h .n) × Walking h (flagged movable) (at costs) (at potential) (flagged chosen) (at distances) target y (flagged flags))
 
 abbrev μ-loop : tie.MeasureT-loop
-μ-loop count tails heads costs movable chosen potential adjacency distances start target row opened flags₀ y₀ flags y = distance-of distances y
+μ-loop m tails heads costs movable chosen potential adjacency distances start target row opened flags₀ y₀ flags y = at distances y
 
 loop-holds : tie.Need-loop-holds Inv-loop μ-loop
 loop-holds c = let s = c .before in let a = s .args in let p = s .pre in (
@@ -37,15 +36,15 @@ loop-holds c = let s = c .before in let a = s .args in let p = s .pre in (
   p .6,
   p .8,
   λ h n cols graph inside.
-      (inside, walking-start h (flagged (a .movable .now)) (at (a .costs .now)) (at (a .potential .now)) (flagged (a .chosen .now)) (distance-of (a .distances .now)) (a .target)),
+      (inside, walking-start h (flagged (a .movable .now)) (at (a .costs .now)) (at (a .potential .now)) (flagged (a .chosen .now)) (at (a .distances .now)) (a .target)),
 )
 
 before-requires : tie.Need-before-requires Inv-loop μ-loop
-before-requires c κs = let l = c .before in let s = l .before .before in let a = s .args in let y = l .loop .y in let dist = distance-of (a .distances .now) in (
+before-requires c κs = let l = c .before in let s = l .before .before in let a = s .args in let y = l .loop .y in let dist = at (a .distances .now) in (
   l .loop .inv .0,
   l .loop .inv .1,
-  before-there 64 (out-of (a .adjacency .now)) (a .start) dist (s .pre .3) y (l .loop .inv .0) (l .loop .inv .1)
-      (farther 64 (out-of (a .adjacency .now)) (a .start) dist (s .pre .3) y (l .loop .inv .0) (l .loop .inv .1) (c .loop-test .taken)) (l .loop .inv .2),
+  before-there 64 (at (a .adjacency .now)) (a .start) dist (s .pre .3) y (l .loop .inv .0) (l .loop .inv .1)
+      (farther 64 (at (a .adjacency .now)) (a .start) dist (s .pre .3) y (l .loop .inv .0) (l .loop .inv .1) (c .loop-test .taken)) (l .loop .inv .2),
 )
 
 make-arc-requires : tie.Need-make-arc-requires Inv-loop μ-loop
@@ -56,7 +55,7 @@ loop-less c = let b = c .before .before2 .ensures in omega (arith, b .closer)
 
 loop-again : tie.Need-loop-again Inv-loop μ-loop
 loop-again c = let b = c .before .before2 .ensures in let l = c .before .before .before in let s = l .before .before in let a = s .args in let x = c .before .before2 .result in
-    let dist = distance-of (a .distances .now) in let size : length (c .make-arc .result) ≡ 256 = search needs in (
+    let dist = at (a .distances .now) in let size : length (c .make-arc .result) ≡ 256 = search needs in (
       b .from-one,
       b .to-last,
       omega (arith, b .closer, l .loop .inv .2),
@@ -76,7 +75,7 @@ array-write-flags c = search needs
 returns : tie.Need-returns Inv-loop μ-loop
 returns c = let l = c .before in let s = l .before .before in let a = s .args in λ h n cols graph inside.
     let same : l .loop .y ≡ a .start = c .loop-test .left in
-    rw (sym same) (walking-end h (flagged (a .movable .now)) (at (a .costs .now)) (at (a .potential .now)) (flagged (a .chosen .now)) (distance-of (a .distances .now)) (a .target) (l .loop .y) (l .loop .flags) (a .row) (a .opened) (omega (arith, l .loop .inv .3, s .pre .7)) (l .loop .inv .4 h n cols graph inside .1))
+    rw (sym same) (walking-end h (flagged (a .movable .now)) (at (a .costs .now)) (at (a .potential .now)) (flagged (a .chosen .now)) (at (a .distances .now)) (a .target) (l .loop .y) (l .loop .flags) (a .row) (a .opened) (omega (arith, l .loop .inv .3, s .pre .7)) (l .loop .inv .4 h n cols graph inside .1))
 
 pub flip-spec : {M : Type 1} → statement M
 flip-spec =

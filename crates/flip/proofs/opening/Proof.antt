@@ -9,19 +9,20 @@ use lib.Dec.{eqb}
 use lib.ListN.{getD}
 use borrow.Author.Count.{below-more}
 use borrow.Author.Needs.{needs}
+use Rattle.laws.specs.Lists.{at}
 use Rattle.laws.proofs.First.{first-more, first-none}
 use Rattle.hall.specs.Hall.{Hall}
-use Rattle.columns.specs.Columns.{at, flagged, Columns}
+use Rattle.columns.specs.Columns.{flagged, Columns}
 use Rattle.potentials.specs.ZeroGraph.{opens}
 use Rattle.zerograph.proofs.Rows.{opens-here}
 use Rattle.flip.proofs.opening.Statement.{statement}
 use Rattle.flip.proofs.opening.Tie as tie
 
 abbrev Inv-loop : tie.InvT-loop
-Inv-loop count tails heads costs movable potential x y k₀ k = (k ≤ count) × ((h : Hall) (n : ℕ) → Columns h n count tails heads → (i : ℕ) → i < k → opens h (flagged movable) (at costs) (at potential) x y (suc i) ≡ false)
+Inv-loop m tails heads costs movable potential x y k₀ k = (k ≤ m) × ((h : Hall) (n : ℕ) → Columns h n m tails heads → (i : ℕ) → i < k → opens h (flagged movable) (at costs) (at potential) x y (suc i) ≡ false)
 
 abbrev μ-loop : tie.MeasureT-loop
-μ-loop count tails heads costs movable potential x y k₀ k = count - k
+μ-loop m tails heads costs movable potential x y k₀ k = m - k
 
 -- the places of the code: the row of a turn and its ends, from the ones after them
 abbrev at-row : tie.After-place2 Inv-loop μ-loop → tie.In-loop Inv-loop μ-loop
@@ -94,20 +95,20 @@ module _ (c : tie.After-no-gap Inv-loop μ-loop) where
   abbrev head : ℕ
   head = ends .place2 .result
 
-  opens-row : (h : Hall) (n : ℕ) → Columns h n (start .args .count) (start .args .tails .now) (start .args .heads .now) →
+  opens-row : (h : Hall) (n : ℕ) → Columns h n (start .args .m) (start .args .tails .now) (start .args .heads .now) →
       (eqb (start .args .x - 1) head && ((getD (start .args .movable .now) row false && c .no-gap .result) && eqb (start .args .y) (tail + 1)))
       ≡ opens h (flagged (start .args .movable .now)) (at (start .args .costs .now)) (at (start .args .potential .now)) (start .args .x) (start .args .y) (suc row)
   opens-row h n cols =
       let a = start .args in let from = ends .before .before .place in let to = ends .place2 in
       ap (λ (b : Bool). eqb (a .x - 1) head && ((getD (a .movable .now) row false && b) && eqb (a .y) (tail + 1))) (c .no-gap .ensures)
       ∙ ap (λ (t : ℕ). eqb (a .x - 1) head && ((getD (a .movable .now) row false && eqb (getD (a .potential .now) head 0) (getD (a .potential .now) tail 0 + getD (a .costs .now) row 0)) && eqb (a .y) t)) (add-one tail)
-      ∙ opens-here h n (a .count) (a .tails .now) (a .heads .now) (a .costs .now) (a .movable .now) [] (a .potential .now) cols row tail head (at-row ends .loop-test .taken) (from .ensures .0) (to .ensures .0)
+      ∙ opens-here h n (a .m) (a .tails .now) (a .heads .now) (a .costs .now) (a .movable .now) [] (a .potential .now) cols row tail head (at-row ends .loop-test .taken) (from .ensures .0) (to .ensures .0)
       (a .x) (a .y) (start .pre .3)
 
 returns : tie.Need-returns Inv-loop μ-loop
 returns c =
     let row = at-row (ends (c .before)) in let l = row .before .loop in let a = row .before .before .args in
-    λ h n cols. sym (first-more (a .count) (λ i. opens h (flagged (a .movable .now)) (at (a .costs .now)) (at (a .potential .now)) (a .x) (a .y) (suc i)) (l .k) (row .loop-test .taken) (l .inv .1 h n cols) (sym (opens-row (c .before) h n cols) ∙ c .if1 .taken))
+    λ h n cols. sym (first-more (a .m) (λ i. opens h (flagged (a .movable .now)) (at (a .costs .now)) (at (a .potential .now)) (a .x) (a .y) (suc i)) (l .k) (row .loop-test .taken) (l .inv .1 h n cols) (sym (opens-row (c .before) h n cols) ∙ c .if1 .taken))
 
 add-k : tie.Need-add-k Inv-loop μ-loop
 add-k c = search needs
@@ -124,7 +125,7 @@ loop-again c =
 
 returns-2 : tie.Need-returns-2 Inv-loop μ-loop
 returns-2 c = let l = c .before in let a = l .before .args in λ h n cols.
-    sym (first-none (a .count) (λ i. opens h (flagged (a .movable .now)) (at (a .costs .now)) (at (a .potential .now)) (a .x) (a .y) (suc i)) (λ i less. l .loop .inv .1 h n cols i (omega arith)))
+    sym (first-none (a .m) (λ i. opens h (flagged (a .movable .now)) (at (a .costs .now)) (at (a .potential .now)) (a .x) (a .y) (suc i)) (λ i less. l .loop .inv .1 h n cols i (omega arith)))
 
 pub opening-spec : {M : Type 1} → statement M
 opening-spec =

@@ -2,7 +2,8 @@
 use mathlib.Core.Path.{refl}
 use native.Mathlib.Omega.{arith}
 use borrow.Author.Needs.{needs}
-use Rattle.columns.specs.Columns.{at, flagged}
+use Rattle.laws.specs.Lists.{at}
+use Rattle.columns.specs.Columns.{flagged}
 use Rattle.potentials.proofs.Same.{repaired-same}
 use Rattle.order.specs.Ranked.{ranked}
 use Rattle.plan.proofs.Stages.{end-low}

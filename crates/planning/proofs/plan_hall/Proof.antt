@@ -2,15 +2,16 @@
 use native.Mathlib.Omega.{arith}
 use borrow.Author.Needs.{needs}
 use Prim.Native.Nat.{_≤_}
+use Rattle.laws.specs.Lists.{at}
 use Rattle.hall.specs.Hall.{Hall}
 use Rattle.hall.specs.File.{hall-in}
 use Rattle.hall.specs.Plan.{First}
 use Rattle.choicelists.specs.Listed.{listed}
-use Rattle.columns.specs.Columns.{at, Ends, flagged}
+use Rattle.columns.specs.Columns.{Ends, flagged}
 use Rattle.cuts.specs.Beside.{highest, Beside-rows}
-use Rattle.cuts.specs.Thresholds.{Under}
+use Rattle.cuts.specs.Thresholds.{Under-top}
 use Rattle.hallfile.specs.declared.HallRecord.{HallRecord}
-use Rattle.ledger.specs.Padded.{Priced}
+use Rattle.ledger.specs.Padded.{Prices-low}
 use Rattle.plan.proofs.Prices.{Accepted, Least, priced, every-ready, price-modest, price-least, level-low, ranked-low, ranked-at, ranked-can, ranked-begin}
 use Rattle.planning.proofs.Plan.{ready, every-flagged, beside-rows, under, planned}
 use Rattle.hallfile.proofs.Accepted as accepted
@@ -94,7 +95,7 @@ module _ (s : tie.Start) where
   ends : Ends (hall .n) (hall .count) (hall .tails) (hall .heads)
   ends = accepted.ends (s .pre .4 .0) (s .pre .4 .1) hall (s .pre .4 .2)
 
-  prices-low : Priced (hall .count) (hall .prices)
+  prices-low : Prices-low (hall .count) (hall .prices)
   prices-low = priced h (hall .n) (hall .count) (hall .tails) (hall .heads) (hall .prices) is-ready ends
 
 of-rows-requires : tie.Need-of-rows-requires
@@ -126,7 +127,7 @@ module _ (c : tie.After-fill-arg5) (k : Hall) (rd : Holds (from-cuts c) k) where
       beside-rows k (x .n) (x .count) (x .tails) (x .heads) (x .prices) rd (ends s) (at-least c .cheapest .result) is-least (links .result)
       (every-flagged k (links .result) (omega (arith, rd .columns .rows, ends s .few)) (links .ensures k (rd .columns)))
 
-  levels-under : Under (hall (from-cuts c) .n) (at (at-least c .cheapest .result .potential)) highest
+  levels-under : Under-top (hall (from-cuts c) .n) (at (at-least c .cheapest .result .potential)) highest
   levels-under = let s = from-cuts c in let x = hall s in under k (x .n) (x .count) (x .tails) (x .heads) (x .prices) rd (ends s) (at-least c .cheapest .result) is-least
 
 fill-requires : tie.Need-fill-requires

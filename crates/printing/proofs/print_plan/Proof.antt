@@ -9,7 +9,7 @@ use Rattle.hallfile.specs.declared.HallRecord.{HallRecord}
 use Rattle.hall.specs.Plan.{Cut}
 use Rattle.printing.specs.Placed.{Halfway}
 use Rattle.printing.specs.Printed.{number-line, pair-line, choice-lines, cut-lines, levels-line, printed-plan}
-use Rattle.printing.specs.Recorded.{hall-of, cuts-of}
+use Rattle.printing.specs.Recorded.{hall-of, paired}
 use Rattle.printing.proofs.Placed.{begun, further, ended, in-front, ends-by}
 use Rattle.printing.proofs.Lines.{number-line-short, pair-line-short}
 use Rattle.printing.proofs.Parts.{choice-few, plan-parts}
@@ -25,7 +25,7 @@ module _ (s : tie.Start) where
   rows = s .args .rows .now
 
   abbrev cuts : List Cut
-  cuts = cuts-of (s .args .shores .now) (s .args .weights .now)
+  cuts = paired (s .args .shores .now) (s .args .weights .now)
 
   abbrev hall-line : List ℕ
   hall-line = pair-line (72 ∷ 65 ∷ 76 ∷ 76 ∷ 32 ∷ []) (hall .n) (hall .count)

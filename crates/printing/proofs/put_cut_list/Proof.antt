@@ -8,7 +8,7 @@ use borrow.Author.Needs.{needs}
 use Rattle.hall.specs.Plan.{Cut}
 use Rattle.printing.specs.Placed.{Halfway}
 use Rattle.printing.specs.Printed.{each, number-line, cut-line, cut-lines}
-use Rattle.printing.specs.Recorded.{cuts-of}
+use Rattle.printing.specs.Recorded.{paired}
 use Rattle.printing.proofs.Placed.{begun, further, ended, ends-by}
 use Rattle.printing.proofs.Lines.{number-line-short}
 use Rattle.printing.proofs.Parts.{cut-parts}
@@ -20,7 +20,7 @@ module _ (s : tie.Start) where
   shores = s .args .shores .now
 
   abbrev cuts : List Cut
-  cuts = cuts-of shores (s .args .weights .now)
+  cuts = paired shores (s .args .weights .now)
 
   abbrev line : List ℕ
   line = number-line (67 ∷ 85 ∷ 84 ∷ 83 ∷ 32 ∷ []) (length shores)

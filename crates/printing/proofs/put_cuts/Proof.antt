@@ -7,14 +7,14 @@ use lib.ListN.{length, getD}
 use borrow.Author.Needs.{needs}
 use Rattle.hall.specs.Plan.{cut}
 use Rattle.printing.specs.Printed.{cut-line}
-use Rattle.printing.specs.Recorded.{cuts-of}
+use Rattle.printing.specs.Recorded.{paired}
 use Rattle.printing.proofs.Recorded.{cuts-length, cuts-at}
 use Rattle.printing.proofs.Texts.{Each-put, each-none, each-next, each-all}
 use Rattle.printing.proofs.put_cuts.Statement.{statement}
 use Rattle.printing.proofs.put_cuts.Tie as tie
 
 abbrev Inv-loop : tie.InvT-loop
-Inv-loop out₀ at n shores weights end₀ k₀ out end k = Each-put (cut-line n) (cuts-of shores weights) 203 at out₀ out end k
+Inv-loop out₀ at n shores weights end₀ k₀ out end k = Each-put (cut-line n) (paired shores weights) 203 at out₀ out end k
 
 abbrev μ-loop : tie.MeasureT-loop
 μ-loop out₀ at n shores weights end₀ k₀ out end k = length shores - k
@@ -27,10 +27,10 @@ module _ (s : tie.Start Inv-loop μ-loop) where
   weights = s .args .weights .now
 
   -- there are as many cuts as shores, and the line of one
-  as-many : length (cuts-of shores weights) ≡ length shores
+  as-many : length (paired shores weights) ≡ length shores
   as-many = cuts-length shores weights (s .pre .0 .1)
 
-  line-is : (k : ℕ) → k < length shores → cut-line (s .args .n) (getD (cuts-of shores weights) k (cut 0 0)) ≡ cut-line (s .args .n) (cut (getD shores k 0) (getD weights k 0))
+  line-is : (k : ℕ) → k < length shores → cut-line (s .args .n) (getD (paired shores weights) k (cut 0 0)) ≡ cut-line (s .args .n) (cut (getD shores k 0) (getD weights k 0))
   line-is k less = ap (cut-line (s .args .n)) (cuts-at shores weights (cut 0 0) k (s .pre .0 .1) less)
 
 -- the start, from the loop's test

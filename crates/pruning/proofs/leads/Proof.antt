@@ -4,11 +4,11 @@ use Prim.Native.Nat.{_-_, _^_, _<_}
 use native.Mathlib.Omega.{arith}
 use lib.Count.{trailing-le}
 use borrow.Author.Tests.{eq-eqb}
+use Rattle.laws.specs.Lists.{at}
 use Rattle.laws.proofs.Booleans.{clash}
 use Rattle.junctions.specs.Sets.{holds, Within}
 use Rattle.junctions.proofs.Bits.{one-shl, trailing-lt}
 use Rattle.junctions.proofs.Single.{one-lt, one-within}
-use Rattle.digraph.specs.Adjacency.{out-of}
 use Rattle.digraph.specs.Search.{Searching, unexpanded}
 use Rattle.digraph.proofs.Search.{search-start}
 use Rattle.digraph.proofs.Expand.{expand-fits, expand-step, expand-less}
@@ -17,7 +17,7 @@ use Rattle.pruning.proofs.leads.Statement.{statement}
 use Rattle.pruning.proofs.leads.Tie as tie
 
 abbrev Inv-loop : tie.InvT-loop
-Inv-loop arcs start target reached₀ todo₀ reached todo = (todo < 2 ^ 64) × Searching 64 (out-of arcs) (2 ^ (start - 1)) reached todo
+Inv-loop arcs start target reached₀ todo₀ reached todo = (todo < 2 ^ 64) × Searching 64 (at arcs) (2 ^ (start - 1)) reached todo
 
 abbrev μ-loop : tie.MeasureT-loop
 μ-loop arcs start target reached₀ todo₀ reached todo = unexpanded 64 reached todo
@@ -35,7 +35,7 @@ shl-reached c = search needs
 loop-holds : tie.Need-loop-holds Inv-loop μ-loop
 loop-holds c =
     let a = c .args in
-    rw (one-shl (a .start - 1) (omega (arith, c .pre .1))) (one-lt 64 (a .start) (c .pre .0) (c .pre .1), search-start 64 (out-of (a .arcs .now)) (2 ^ (a .start - 1)))
+    rw (one-shl (a .start - 1) (omega (arith, c .pre .1))) (one-lt 64 (a .start) (c .pre .0) (c .pre .1), search-start 64 (at (a .arcs .now)) (2 ^ (a .start - 1)))
 
 sub-if1 : tie.Need-sub-if1 Inv-loop μ-loop
 sub-if1 c = search needs
@@ -63,12 +63,12 @@ sub-todo c = search needs
 
 loop-less : tie.Need-loop-less Inv-loop μ-loop
 loop-less c = let l = at-loop c .loop in let a = at-loop c .before .args in
-    expand-less (out-of (a .arcs .now)) (2 ^ (a .start - 1)) (l .reached) (l .todo) (c .arcs .result) (omega arith) (l .inv .0) (c .arcs .ensures) (l .inv .1)
+    expand-less (at (a .arcs .now)) (2 ^ (a .start - 1)) (l .reached) (l .todo) (c .arcs .result) (omega arith) (l .inv .0) (c .arcs .ensures) (l .inv .1)
 
 loop-again : tie.Need-loop-again Inv-loop μ-loop
 loop-again c = let l = at-loop c .loop in let a = at-loop c .before .args in (
   expand-fits (l .reached) (l .todo) (c .arcs .result) (l .inv .0) (omega (arith, c .arcs .ok)),
-  expand-step (out-of (a .arcs .now)) (2 ^ (a .start - 1)) (l .reached) (l .todo) (c .arcs .result) (omega arith) (l .inv .0) (c .arcs .ensures) (l .inv .1),
+  expand-step (at (a .arcs .now)) (2 ^ (a .start - 1)) (l .reached) (l .todo) (c .arcs .result) (omega arith) (l .inv .0) (c .arcs .ensures) (l .inv .1),
 )
 
 returns-2 : tie.Need-returns-2 Inv-loop μ-loop

@@ -4,7 +4,7 @@ use mathlib.Core.List.{[]}
 use Prim.Native.Nat.{suc}
 use native.Mathlib.Omega.{arith}
 use borrow.Author.Needs.{needs}
-use Rattle.columns.specs.Columns.{at}
+use Rattle.laws.specs.Lists.{at}
 use Rattle.potentials.specs.Potential.{gap}
 use Rattle.zerograph.proofs.Rows.{gap-here}
 use Rattle.raise.proofs.raise_for.Statement.{statement}
@@ -73,7 +73,7 @@ returns c =
     omega (
       arith,
       up .ensures .0,
-      gap-here h n (a .count) (a .tails .now) (a .heads .now) (a .costs .now) (a .movable .now) [] (a .potential .now) cols (a .row) (tail .result) (head .result) (s .pre .3) (tail .ensures .0) (head .ensures .0),
+      gap-here h n (a .m) (a .tails .now) (a .heads .now) (a .costs .now) (a .movable .now) [] (a .potential .now) cols (a .row) (tail .result) (head .result) (s .pre .3) (tail .ensures .0) (head .ensures .0),
     ) in
     (room .result, rw gap-is at (room .ensures .1 h n F cols near), c .raise .ensures)
 

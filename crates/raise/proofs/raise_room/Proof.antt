@@ -1,7 +1,8 @@
 -- Raise_room has the room that rows and neighbourhoods leave. Assumes nothing.
 use borrow.Author.Needs.{needs}
 use native.Mathlib.Omega.{arith}
-use Rattle.columns.specs.Columns.{at, flagged}
+use Rattle.laws.specs.Lists.{at}
+use Rattle.columns.specs.Columns.{flagged}
 use Rattle.raise.proofs.Raising.{room-all}
 use Rattle.raise.proofs.raise_room.Statement.{statement}
 use Rattle.raise.proofs.raise_room.Tie as tie
@@ -16,7 +17,7 @@ returns : tie.Need-returns
 returns c = let a = c .before .before .args in (
   omega (arith, c .before .row-room .ensures .0, c .near-room .ensures .fits .0),
   λ h n F cols near.
-      room-all h (flagged (a .movable .now)) (at (a .costs .now)) (at (a .potential .now)) F (a .around .now) (a .count) (a .set) (a .start) (c .before .row-room .result) (c .near-room .result) (cols .rows) near (c .before .row-room .ensures .1 h n cols) (c .near-room .ensures),
+      room-all h (flagged (a .movable .now)) (at (a .costs .now)) (at (a .potential .now)) F (a .around .now) (a .m) (a .set) (a .start) (c .before .row-room .result) (c .near-room .result) (cols .rows) near (c .before .row-room .ensures .1 h n cols) (c .near-room .ensures),
 )
 
 pub raise-room-spec : {M : Type 1} → statement M

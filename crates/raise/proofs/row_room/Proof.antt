@@ -3,18 +3,19 @@ use mathlib.Core.Path.{_≡_, sym}
 use Prim.Native.Nat.{ℕ, _-_, _≤_}
 use native.Mathlib.Omega.{arith}
 use borrow.Author.Needs.{needs}
+use Rattle.laws.specs.Lists.{at}
 use Rattle.hall.specs.Hall.{Hall}
-use Rattle.columns.specs.Columns.{at, flagged, Columns}
+use Rattle.columns.specs.Columns.{flagged, Columns}
 use Rattle.raise.specs.Rooms.{Most, Rows-allow}
 use Rattle.raise.proofs.Rooms.{rows-room-none, rows-room-more}
 use Rattle.raise.proofs.row_room.Statement.{statement}
 use Rattle.raise.proofs.row_room.Tie as tie
 
 abbrev Inv-loop : tie.InvT-loop
-Inv-loop count tails heads costs movable potential set start room₀ k₀ room k = (k ≤ count) × (room ≤ start) × ((h : Hall) (n : ℕ) → Columns h n count tails heads → Most (λ e. (e ≤ start) × Rows-allow h (flagged movable) (at costs) (at potential) set k e) room)
+Inv-loop m tails heads costs movable potential set start room₀ k₀ room k = (k ≤ m) × (room ≤ start) × ((h : Hall) (n : ℕ) → Columns h n m tails heads → Most (λ e. (e ≤ start) × Rows-allow h (flagged movable) (at costs) (at potential) set k e) room)
 
 abbrev μ-loop : tie.MeasureT-loop
-μ-loop count tails heads costs movable potential set start room₀ k₀ room k = count - k
+μ-loop m tails heads costs movable potential set start room₀ k₀ room k = m - k
 
 -- the places of the code: the row of a turn, its ends and where they lie, from the ones after them
 abbrev at-row : tie.After-place2 Inv-loop μ-loop → tie.In-loop Inv-loop μ-loop
@@ -27,7 +28,7 @@ abbrev at-sides : tie.After-narrow-arg3 Inv-loop μ-loop → tie.After-has2 Inv-
 at-sides c = c .before .before .before
 
 loop-holds : tie.Need-loop-holds Inv-loop μ-loop
-loop-holds c = let a = c .args in (omega arith, omega arith, λ h n cols. rows-room-none h n (a .count) (a .tails .now) (a .heads .now) (a .costs .now) (a .movable .now) (a .potential .now) cols (a .set) (a .start))
+loop-holds c = let a = c .args in (omega arith, omega arith, λ h n cols. rows-room-none h n (a .m) (a .tails .now) (a .heads .now) (a .costs .now) (a .movable .now) (a .potential .now) cols (a .set) (a .start))
 
 element-copy-out-place : tie.Need-element-copy-out-place Inv-loop μ-loop
 element-copy-out-place c = search needs
@@ -90,13 +91,13 @@ loop-again c =
     let row = at-row ends in let l = row .before .loop in let a = row .before .before .args in (
       omega arith,
       omega (arith, c .narrow .ensures .1),
-      λ h n cols. rows-room-more h n (a .count) (a .tails .now) (a .heads .now) (a .costs .now) (a .movable .now) (a .potential .now) cols (a .set) (a .start)
+      λ h n cols. rows-room-more h n (a .m) (a .tails .now) (a .heads .now) (a .costs .now) (a .movable .now) (a .potential .now) cols (a .set) (a .start)
           (l .k) (tail .result) (head .result) (l .room) (c .narrow .result) (row .loop-test .taken) (tail .ensures .0) (head .ensures .0)
           (rw (sym (out .ensures), sym (into .ensures)) (c .narrow .ensures .0)) (l .inv .2 h n cols),
     )
 
 returns : tie.Need-returns Inv-loop μ-loop
-returns c = let l = c .before in let a = l .before .args in (l .loop .inv .1, λ h n cols. let e : l .loop .k ≡ a .count = omega arith in rw e at (l .loop .inv .2 h n cols))
+returns c = let l = c .before in let a = l .before .args in (l .loop .inv .1, λ h n cols. let e : l .loop .k ≡ a .m = omega arith in rw e at (l .loop .inv .2 h n cols))
 
 pub row-room-spec : {M : Type 1} → statement M
 row-room-spec =

@@ -1,7 +1,8 @@
 -- Next_unpaid finds a row with a gap where there is one: what lies before the last row is looked at too. Assumes nothing.
 use native.Mathlib.Omega.{arith}
 use borrow.Author.Needs.{needs}
-use Rattle.columns.specs.Columns.{at, flagged}
+use Rattle.laws.specs.Lists.{at}
+use Rattle.columns.specs.Columns.{flagged}
 use Rattle.repair.proofs.Repairing.{first-some}
 use Rattle.repair.proofs.next_unpaid.Statement.{statement}
 use Rattle.repair.proofs.next_unpaid.Tie as tie
@@ -17,7 +18,7 @@ unpaid-requires-2 c κs = search needs
 
 returns-2 : tie.Need-returns-2
 returns-2 c = let a = c .before .before .before .args in λ h n cols.
-    first-some h (at (a .costs .now)) (at (a .potential .now)) (flagged (a .chosen .now)) (a .count) (c .unpaid2 .result) (c .unpaid2 .ensures h n cols)
+    first-some h (at (a .costs .now)) (at (a .potential .now)) (flagged (a .chosen .now)) (a .m) (c .unpaid2 .result) (c .unpaid2 .ensures h n cols)
 
 pub next-unpaid-spec : {M : Type 1} → statement M
 next-unpaid-spec = tie.close (tie.spec unpaid-requires returns unpaid-requires-2 returns-2)

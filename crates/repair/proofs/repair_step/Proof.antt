@@ -6,15 +6,14 @@ use Prim.Native.Nat.{ℕ, suc, _-_, _^_, _≤_}
 use native.Mathlib.Omega.{arith}
 use mir.Syntax.{w64}
 use borrow.Author.Needs.{needs, elem-fits}
+use Rattle.laws.specs.Lists.{at}
 use Rattle.junctions.specs.Sets.{holds}
 use Rattle.junctions.proofs.Bits.{one-shl}
-use Rattle.digraph.specs.Adjacency.{out-of}
-use Rattle.digraph.specs.Layers.{distance-of}
 use Rattle.digraph.specs.Reach.{Reach}
 use Rattle.digraph.proofs.Closure.{start-reached}
 use Rattle.digraph.proofs.Paths.{reached-near}
 use Rattle.hall.specs.Hall.{Hall, row, count}
-use Rattle.columns.specs.Columns.{at, flagged, Columns}
+use Rattle.columns.specs.Columns.{flagged, Columns}
 use Rattle.columns.proofs.Places.{place-tail, place-head}
 use Rattle.columns.proofs.Ranged.{ends-wide}
 use Rattle.potentials.specs.Flip.{Turns}
@@ -69,15 +68,15 @@ module _ (c : tie.After-number2) where
   tail-high : tail ≤ 64
   tail-high = omega (arith, at-tail c .number .ensures, start .pre .0 .size, start .pre .0 .tail-high (start .args .row) (start .pre .3))
 
-  module _ (h : Hall) (cols : Columns h (start .args .n) (start .args .count) (start .args .tails .now) (start .args .heads .now)) where
+  module _ (h : Hall) (cols : Columns h (start .args .n) (start .args .m) (start .args .tails .now) (start .args .heads .now)) where
     head-is : head ≡ row h (suc (start .args .row)) .to
-    head-is = let a = start .args in c .number2 .ensures ∙ place-head h (a .n) (a .count) (a .tails .now) (a .heads .now) cols (a .row) (start .pre .3)
+    head-is = let a = start .args in c .number2 .ensures ∙ place-head h (a .n) (a .m) (a .tails .now) (a .heads .now) cols (a .row) (start .pre .3)
 
     tail-is : tail ≡ row h (suc (start .args .row)) .from
-    tail-is = let a = start .args in at-tail c .number .ensures ∙ place-tail h (a .n) (a .count) (a .tails .now) (a .heads .now) cols (a .row) (start .pre .3)
+    tail-is = let a = start .args in at-tail c .number .ensures ∙ place-tail h (a .n) (a .m) (a .tails .now) (a .heads .now) cols (a .row) (start .pre .3)
 
 -- the set is what the head reaches
-head-reach : (c : tie.After-reach) → Reach 64 (out-of (at-graph c .zero-graph .result)) (2 ^ (head (at-ends c) - 1)) (c .reach .result)
+head-reach : (c : tie.After-reach) → Reach 64 (at (at-graph c .zero-graph .result)) (2 ^ (head (at-ends c) - 1)) (c .reach .result)
 head-reach c = rw (one-shl (head (at-ends c) - 1) (omega (arith, head-high (at-ends c)))) at (c .reach .ensures)
 
 element-copy-out-number : tie.Need-element-copy-out-number
@@ -119,13 +118,13 @@ flip-requires c κs =
     let ends = at-ends z in let s = at-start ends in let a = s .args in let to = tail ends in
     let here : suc (to - 1) ≡ to = omega (arith, tail-low ends) in
     let there : holds (z .reach .result) to ≡ true = rw here at (sym (test .before .has .ensures) ∙ test .if1 .taken) in (
-      ends-wide (a .n) (a .count) (a .tails .now) (a .heads .now) (s .pre .0),
+      ends-wide (a .n) (a .m) (a .tails .now) (a .heads .now) (s .pre .0),
       s .pre .1,
       s .pre .2,
       d .ensures,
       tail-low ends,
       tail-high ends,
-      reached-near 64 (out-of (g .result)) (head ends) (distance-of (d .result)) (d .ensures) (head-low ends) (head-high ends)
+      reached-near 64 (at (g .result)) (head ends) (at (d .result)) (d .ensures) (head-low ends) (head-high ends)
           (λ j l u. elem-fits w64 w64 (g .result) (g .ok .0) (j - 1) (g .ok .1 .1) tt .fits) (z .reach .result) (head-reach z) to (tail-low ends) there,
       omega (arith, s .pre .0 .few, s .pre .3),
       s .pre .4,
@@ -149,7 +148,7 @@ returns c =
           let turns =
           subst (λ (y : ℕ). Turns h m cost p F y (turning false i (head ends)) (head ends)) (sym (tail-is ends h cols))
           (subst (λ (x : ℕ). Turns h m cost p F (row h i .from) (turning false i x) x) (sym (head-is ends h cols)) (short-turns h m cost p F rg free start i (omega arith) u gap)) in
-          let flipped = walked-flip h (a .movable .now) (a .chosen .now) (a .costs .now) (a .potential .now) (g .result) (head ends) (tail ends) (distance-of (d .distances .result)) i false (made .result)
+          let flipped = walked-flip h (a .movable .now) (a .chosen .now) (a .costs .now) (a .potential .now) (g .result) (head ends) (tail ends) (at (d .distances .result)) i false (made .result)
           (omega (arith, cols .junctions, s .pre .0 .size)) graph (d .distances .ensures) (head-low ends) (omega (arith, head-is ends h cols, rg .to-high i (omega arith) u)) (start .joining) (start .parted) (omega arith)
           turns walked in
           stepped-flip h m cost p F rg free start i (omega arith) u gap (flagged (made .result)) (sets .result) (flipped .1) (flipped .0) (sets .ensures h cols rg (flipped .0 .joining)),
@@ -158,7 +157,7 @@ returns c =
 raise-for-requires : tie.Need-raise-for-requires
 raise-for-requires c κs =
     let s = at-start (at-ends (c .before .before)) in let a = s .args in
-    (ends-wide (a .n) (a .count) (a .tails .now) (a .heads .now) (s .pre .0), s .pre .1, s .pre .2, s .pre .3)
+    (ends-wide (a .n) (a .m) (a .tails .now) (a .heads .now) (s .pre .0), s .pre .1, s .pre .2, s .pre .3)
 
 returns-2 : tie.Need-returns-2
 returns-2 c =
@@ -176,7 +175,7 @@ returns-2 c =
           let high : head ends ≤ h .n = omega (arith, head-is ends h cols, rg .to-high i (omega arith) u) in
           let out : holds (z .reach .result) (row h i .from) ≡ false = rw from-is at (sym (test .before .has .ensures) ∙ test .if1 .left) in
           let into : holds (z .reach .result) (row h i .to) ≡ true =
-          rw (head-is ends h cols) at (start-reached 64 (out-of (g .result)) (head ends) (z .reach .result) (head-low ends) (head-reach z)) in
+          rw (head-is ends h cols) at (start-reached 64 (at (g .result)) (head ends) (z .reach .result) (head-low ends) (head-reach z)) in
           stepped-raise h m cost p F rg free start i (omega arith) u gap (z .reach .result) (at (lifted .result)) (a .around .now) small
           (reached-lt h m cost p F (g .result) (head ends) (z .reach .result) small (head-low ends) high graph (head-reach z))
           (reached-closed h m cost p F (g .result) (head ends) (z .reach .result) small (head-low ends) high graph (head-reach z)) out into near (lifted .ensures h (a .n) F cols near),

@@ -7,18 +7,19 @@ use lib.Dec.{ltb}
 use lib.ListN.{getD}
 use borrow.Author.Count.{below-more}
 use borrow.Author.Needs.{needs}
+use Rattle.laws.specs.Lists.{at}
 use Rattle.hall.specs.Hall.{Hall}
-use Rattle.columns.specs.Columns.{at, flagged, Columns}
-use Rattle.repair.specs.Repairs.{short}
+use Rattle.columns.specs.Columns.{flagged, Columns}
+use Rattle.repair.specs.Repairs.{unpaid}
 use Rattle.repair.proofs.Repairing.{short-here}
 use Rattle.repair.proofs.unpaid.Statement.{statement}
 use Rattle.repair.proofs.unpaid.Tie as tie
 
 abbrev Inv-loop : tie.InvT-loop
-Inv-loop count tails heads costs chosen potential from k₀ k = (h : Hall) (n : ℕ) → Columns h n count tails heads → (i : ℕ) → i < k → from ≤ i → short h (at costs) (at potential) (flagged chosen) (suc i) ≡ false
+Inv-loop m tails heads costs chosen potential from k₀ k = (h : Hall) (n : ℕ) → Columns h n m tails heads → (i : ℕ) → i < k → from ≤ i → unpaid h (at costs) (at potential) (flagged chosen) (suc i) ≡ false
 
 abbrev μ-loop : tie.MeasureT-loop
-μ-loop count tails heads costs chosen potential from k₀ k = count - k
+μ-loop m tails heads costs chosen potential from k₀ k = m - k
 
 -- the places of the code: the row of a turn and its ends, from the ones after them
 abbrev at-row : tie.After-place2 Inv-loop μ-loop → tie.In-loop Inv-loop μ-loop
@@ -83,12 +84,12 @@ module _ (c : tie.After-if15 Inv-loop μ-loop) where
   abbrev head : ℕ
   head = at-ends c .place2 .result
 
-  short-row : (h : Hall) (n : ℕ) → Columns h n (start .args .count) (start .args .tails .now) (start .args .heads .now) →
+  short-row : (h : Hall) (n : ℕ) → Columns h n (start .args .m) (start .args .tails .now) (start .args .heads .now) →
       (getD (start .args .chosen .now) row false && ltb (getD (start .args .potential .now) head 0) (getD (start .args .potential .now) tail 0 + getD (start .args .costs .now) row 0))
-      ≡ short h (at (start .args .costs .now)) (at (start .args .potential .now)) (flagged (start .args .chosen .now)) (suc row)
+      ≡ unpaid h (at (start .args .costs .now)) (at (start .args .potential .now)) (flagged (start .args .chosen .now)) (suc row)
   short-row h n cols =
       let a = start .args in let from = at-ends c .before .before .place in let to = at-ends c .place2 in
-      short-here h n (a .count) (a .tails .now) (a .heads .now) (a .costs .now) (a .chosen .now) (a .potential .now) cols row tail head (at-row (at-ends c) .loop-test .taken) (from .ensures .0) (to .ensures .0)
+      short-here h n (a .m) (a .tails .now) (a .heads .now) (a .costs .now) (a .chosen .now) (a .potential .now) cols row tail head (at-row (at-ends c) .loop-test .taken) (from .ensures .0) (to .ensures .0)
 
 returns : tie.Need-returns Inv-loop μ-loop
 returns c =
@@ -105,7 +106,7 @@ loop-again : tie.Need-loop-again Inv-loop μ-loop
 loop-again c =
     let l = at-row (at-ends (c .before)) .before .loop in let a = at-row (at-ends (c .before)) .before .before .args in
     λ h n cols.
-    below-more (λ (i : ℕ). a .from ≤ i → short h (at (a .costs .now)) (at (a .potential .now)) (flagged (a .chosen .now)) (suc i) ≡ false) (l .k) (l .inv h n cols)
+    below-more (λ (i : ℕ). a .from ≤ i → unpaid h (at (a .costs .now)) (at (a .potential .now)) (flagged (a .chosen .now)) (suc i) ≡ false) (l .k) (l .inv h n cols)
     (λ low. sym (short-row (c .before) h n cols) ∙ c .if1 .left)
 
 returns-2 : tie.Need-returns-2 Inv-loop μ-loop

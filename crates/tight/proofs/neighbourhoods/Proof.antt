@@ -2,14 +2,14 @@
 use Prim.Native.Nat.{_≤_}
 use native.Mathlib.Omega.{arith}
 use Rattle.columns.specs.Columns.{flagged}
-use Rattle.tight.specs.Growth.{Found}
+use Rattle.tight.specs.Growth.{Robust-from}
 use Rattle.tight.proofs.Each.{found-none, found-more, found-known, found-all}
 use borrow.Author.Needs.{needs}
 use Rattle.tight.proofs.neighbourhoods.Statement.{statement}
 use Rattle.tight.proofs.neighbourhoods.Tie as tie
 
 abbrev Inv-loop : tie.InvT-loop
-Inv-loop n m tails heads flags arcs solid sets₀ k₀ sets k = (k ≤ n) × Found arcs solid sets n k
+Inv-loop n m tails heads flags arcs solid sets₀ k₀ sets k = (k ≤ n) × Robust-from arcs solid sets n k
 
 abbrev μ-loop : tie.MeasureT-loop
 μ-loop n m tails heads flags arcs solid sets₀ k₀ sets k = k

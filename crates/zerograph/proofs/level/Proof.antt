@@ -8,7 +8,7 @@ use lib.ListN.{getD}
 use lib.Bits.{and-le-r}
 use lib.Dec.{eqb}
 use borrow.Author.Needs.{needs}
-use Rattle.columns.specs.Columns.{at}
+use Rattle.laws.specs.Lists.{at}
 use Rattle.junctions.proofs.Taking.{Found, found-none, found-more, found-all}
 use Rattle.zerograph.proofs.level.Statement.{statement}
 use Rattle.zerograph.proofs.level.Tie as tie

@@ -6,19 +6,20 @@ use native.Mathlib.Omega.{arith}
 use lib.Dec.{eqb}
 use lib.ListN.{getD}
 use borrow.Author.Needs.{needs}
+use Rattle.laws.specs.Lists.{at}
 use Rattle.junctions.specs.Sets.{holds}
 use Rattle.hall.specs.Hall.{Hall}
-use Rattle.columns.specs.Columns.{at, flagged, Columns}
+use Rattle.columns.specs.Columns.{flagged, Columns}
 use Rattle.zerograph.specs.Zero.{Row-arcs}
 use Rattle.zerograph.proofs.Rows.{row-arcs-none, row-arcs-more, row-arcs-all}
 use Rattle.zerograph.proofs.row_arcs.Statement.{statement}
 use Rattle.zerograph.proofs.row_arcs.Tie as tie
 
 abbrev Inv-loop : tie.InvT-loop
-Inv-loop count tails heads costs movable chosen potential arcs₀ k₀ arcs k = (k ≤ count) × ((h : Hall) (n : ℕ) → Columns h n count tails heads → Row-arcs h (flagged movable) (at costs) (at potential) (flagged chosen) k arcs)
+Inv-loop m tails heads costs movable chosen potential arcs₀ k₀ arcs k = (k ≤ m) × ((h : Hall) (n : ℕ) → Columns h n m tails heads → Row-arcs h (flagged movable) (at costs) (at potential) (flagged chosen) k arcs)
 
 abbrev μ-loop : tie.MeasureT-loop
-μ-loop count tails heads costs movable chosen potential arcs₀ k₀ arcs k = count - k
+μ-loop m tails heads costs movable chosen potential arcs₀ k₀ arcs k = m - k
 
 -- the places of the code: the row of a turn, its ends and its arcs, from the ones after them
 abbrev at-row : tie.After-place2 Inv-loop μ-loop → tie.In-loop Inv-loop μ-loop
@@ -124,14 +125,14 @@ loop-again c =
     let open-is : (i : ℕ) → 1 ≤ i → holds (opened .result) i ≡ ((getD (a .movable .now) (l .k) false && eqb (getD (a .potential .now) (head .result) 0) (getD (a .potential .now) (tail .result) 0 + getD (a .costs .now) (l .k) 0)) && eqb i (suc (tail .result))) =
     λ i low. opened .ensures i low ∙ ap (λ (b : Bool). (getD (a .movable .now) (l .k) false && b) && eqb i (suc (tail .result))) (gap .ensures) in (
       omega arith,
-      λ h n cols. row-arcs-more h n (a .count) (a .tails .now) (a .heads .now) (a .costs .now) (a .movable .now) (a .chosen .now) (a .potential .now) cols
+      λ h n cols. row-arcs-more h n (a .m) (a .tails .now) (a .heads .now) (a .costs .now) (a .movable .now) (a .chosen .now) (a .potential .now) cols
           (l .k) (tail .result) (head .result) (row .loop-test .taken) (tail .ensures .0) (head .ensures .0) (l .arcs)
           (opened .result) (closed .result) (tail .ensures .1) (head .ensures .1) open-is (closed .ensures) (l .inv .1 h n cols),
     )
 
 returns : tie.Need-returns Inv-loop μ-loop
 returns c = let l = c .before in let a = l .before .args in λ h n cols.
-    row-arcs-all h (flagged (a .movable .now)) (at (a .costs .now)) (at (a .potential .now)) (flagged (a .chosen .now)) (l .loop .k) (a .count) (l .loop .arcs) (l .loop .inv .0) (c .loop-test .left) (l .loop .inv .1 h n cols)
+    row-arcs-all h (flagged (a .movable .now)) (at (a .costs .now)) (at (a .potential .now)) (flagged (a .chosen .now)) (l .loop .k) (a .m) (l .loop .arcs) (l .loop .inv .0) (c .loop-test .left) (l .loop .inv .1 h n cols)
 
 pub row-arcs-spec : {M : Type 1} → statement M
 row-arcs-spec =

@@ -2,8 +2,9 @@
 use Prim.Native.Nat.{_-_, _≤_}
 use native.Mathlib.Omega.{arith}
 use borrow.Author.Needs.{needs}
+use Rattle.laws.specs.Lists.{at}
 use Rattle.hall.specs.Hall.{Hall}
-use Rattle.columns.specs.Columns.{at, flagged, Columns, Neighbourhoods}
+use Rattle.columns.specs.Columns.{flagged, Columns, Neighbourhoods}
 use Rattle.columns.proofs.Ranged.{ends-wide}
 use Rattle.zerograph.proofs.Levels.{levels-none}
 use Rattle.zerograph.proofs.Swaps.{Swapped, swapped-none, swapped-more, swapped-all, near-lt}
@@ -11,10 +12,10 @@ use Rattle.zerograph.proofs.zero_graph.Statement.{statement}
 use Rattle.zerograph.proofs.zero_graph.Tie as tie
 
 abbrev Inv-loop : tie.InvT-loop
-Inv-loop n count tails heads costs movable chosen potential around values sets arcs₀ x₀ arcs x = (x ≤ n) × ((h : Hall) → Columns h n count tails heads → Neighbourhoods h (flagged chosen) around → Swapped h (flagged movable) (at costs) (at potential) (flagged chosen) x arcs)
+Inv-loop n m tails heads costs movable chosen potential around values sets arcs₀ x₀ arcs x = (x ≤ n) × ((h : Hall) → Columns h n m tails heads → Neighbourhoods h (flagged chosen) around → Swapped h (flagged movable) (at costs) (at potential) (flagged chosen) x arcs)
 
 abbrev μ-loop : tie.MeasureT-loop
-μ-loop n count tails heads costs movable chosen potential around values sets arcs₀ x₀ arcs x = n - x
+μ-loop n m tails heads costs movable chosen potential around values sets arcs₀ x₀ arcs x = n - x
 
 -- the places of the code: what each call gave, and the turn, from the ones after them
 abbrev at-rows : tie.After-fill-levels Inv-loop μ-loop → tie.After-row-arcs Inv-loop μ-loop
@@ -27,7 +28,7 @@ abbrev at-turn : tie.After-same-level Inv-loop μ-loop → tie.In-loop Inv-loop 
 at-turn c = c .before .before .before .before .before
 
 row-arcs-requires : tie.Need-row-arcs-requires Inv-loop μ-loop
-row-arcs-requires c κs = let a = c .args in (ends-wide (a .n) (a .count) (a .tails .now) (a .heads .now) (c .pre .0), c .pre .1, c .pre .2)
+row-arcs-requires c κs = let a = c .args in (ends-wide (a .n) (a .m) (a .tails .now) (a .heads .now) (c .pre .0), c .pre .1, c .pre .2)
 
 fill-levels-requires : tie.Need-fill-levels-requires Inv-loop μ-loop
 fill-levels-requires c κs = let s = c .before .before .before in (s .pre .0 .size, levels-none (s .args .potential .now))
@@ -36,7 +37,7 @@ loop-holds : tie.Need-loop-holds Inv-loop μ-loop
 loop-holds c =
     let rows = at-rows c .row-arcs in let a = at-rows c .before .args in (
       omega arith,
-      λ h cols near. swapped-none h (flagged (a .movable .now)) (at (a .costs .now)) (a .potential .now) (flagged (a .chosen .now)) (a .count) (rows .result) (cols .rows) (rows .ensures h (a .n) cols),
+      λ h cols near. swapped-none h (flagged (a .movable .now)) (at (a .costs .now)) (a .potential .now) (flagged (a .chosen .now)) (a .m) (rows .result) (cols .rows) (rows .ensures h (a .n) cols),
     )
 
 mul-same-level : tie.Need-mul-same-level Inv-loop μ-loop
@@ -87,7 +88,7 @@ returns : tie.Need-returns Inv-loop μ-loop
 returns c =
     let l = c .before .loop in let s = at-start (c .before) in let a = s .args in
     λ h cols near.
-    swapped-all h (flagged (a .movable .now)) (at (a .costs .now)) (a .potential .now) (flagged (a .chosen .now)) (a .n) (a .count) (a .tails .now) (a .heads .now) (s .pre .0) cols
+    swapped-all h (flagged (a .movable .now)) (at (a .costs .now)) (a .potential .now) (flagged (a .chosen .now)) (a .n) (a .m) (a .tails .now) (a .heads .now) (s .pre .0) cols
     (l .x) (l .arcs) (l .inv .0) (c .loop-test .left) (l .inv .1 h cols near)
 
 pub zero-graph-spec : {M : Type 1} → statement M

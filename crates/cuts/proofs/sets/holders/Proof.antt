@@ -5,8 +5,8 @@ use mathlib.Core.List.{List}
 use Prim.Native.Nat.{ℕ, _≤_, _-_, _/_, _%_, _^_}
 use native.Mathlib.Omega.{arith}
 use lib.ListN.{getD}
+use Rattle.laws.specs.Lists.{at}
 use Rattle.junctions.specs.Sets.{holds, gather}
-use Rattle.digraph.specs.Adjacency.{out-of}
 use Rattle.cuts.proofs.Columns.{place-next}
 use Rattle.cuts.proofs.Gathering.{gather-bit}
 use borrow.Author.Needs.{needs}
@@ -15,7 +15,7 @@ use Rattle.cuts.proofs.sets.holders.Tie as tie
 
 -- junction b's set holds junction a
 abbrev holder : (around : List ℕ) → (a b : ℕ) → Bool
-holder around a b = holds (out-of around b) a
+holder around a b = holds (at around b) a
 
 abbrev Inv-loop : tie.InvT-loop
 Inv-loop around n a place set₀ k₀ set k = (k ≤ n) × (set ≡ gather k (holder around a))

@@ -2,8 +2,8 @@
 use mathlib.Core.Path.{_≡_, refl, ap, _∙_}
 use Prim.Native.Nat.{ℕ, _≤_, _-_, _+_}
 use native.Mathlib.Omega.{arith}
-use Rattle.digraph.specs.Adjacency.{out-of}
-use Rattle.cuts.specs.Columns.{Filled}
+use Rattle.laws.specs.Lists.{at}
+use Rattle.cuts.specs.Columns.{Filled-to}
 use Rattle.cuts.specs.Thresholds.{mates-by}
 use Rattle.cuts.proofs.Columns.{filled-none, filled-more}
 use borrow.Author.Needs.{needs}
@@ -11,7 +11,7 @@ use Rattle.cuts.proofs.sets.mates.Statement.{statement}
 use Rattle.cuts.proofs.sets.mates.Tie as tie
 
 abbrev Inv-loop : tie.InvT-loop
-Inv-loop around n sets₀ k₀ sets k = (k ≤ n) × Filled 64 (λ (i : ℕ). mates-by n (out-of around) (i + 1)) k sets
+Inv-loop around n sets₀ k₀ sets k = (k ≤ n) × Filled-to 64 (λ (i : ℕ). mates-by n (at around) (i + 1)) k sets
 
 abbrev μ-loop : tie.MeasureT-loop
 μ-loop around n sets₀ k₀ sets k = n - k
@@ -43,7 +43,7 @@ loop-again c = let l = c .before .before .loop in (omega arith, filled-more 64 _
 returns : tie.Need-returns Inv-loop μ-loop
 returns c = let l = c .before .loop in let s = c .before .before .args in (
   l .inv .1 .long,
-  λ a p q. let e : a - 1 + 1 ≡ a = omega arith in l .inv .1 .at (a - 1) (omega arith) ∙ ap (mates-by (s .n) (out-of (s .around .now))) e,
+  λ a p q. let e : a - 1 + 1 ≡ a = omega arith in l .inv .1 .at (a - 1) (omega arith) ∙ ap (mates-by (s .n) (at (s .around .now))) e,
 )
 
 pub mates-spec : {M : Type 1} → statement M

@@ -2,8 +2,8 @@
 use mathlib.Core.Path.{ap, ap₂, _∙_}
 use Prim.Native.Nat.{ℕ}
 use lib.Bits.{bitAnd, bitOr}
+use Rattle.laws.specs.Lists.{at}
 use Rattle.junctions.specs.Sets.{holds}
-use Rattle.digraph.specs.Adjacency.{out-of}
 use Rattle.cuts.specs.Thresholds.{mates-by}
 use Rattle.cuts.proofs.Gathering.{gather-or}
 use borrow.Author.Needs.{needs}
@@ -27,9 +27,9 @@ holders-requires c κs = search needs
 
 returns : tie.Need-returns
 unfolding mates-by
-returns c = let s = c .before .before .before .before .args in let own = out-of (s .around .now) (s .a) in
+returns c = let s = c .before .before .before .before .args in let own = at (s .around .now) (s .a) in
     ap₂ bitOr (ap (λ (f : ℕ). bitAnd f own) (c .before .before .before .full .ensures)) (c .holders .ensures)
-    ∙ gather-or (s .n) own (λ (b : ℕ). holds (out-of (s .around .now) b) (s .a))
+    ∙ gather-or (s .n) own (λ (b : ℕ). holds (at (s .around .now) b) (s .a))
 
 pub mates-of-spec : {M : Type 1} → statement M
 mates-of-spec =

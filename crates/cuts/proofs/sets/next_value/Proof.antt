@@ -2,8 +2,8 @@
 use mathlib.Core.Path.{_≡_}
 use Prim.Native.Nat.{_≤_, _-_}
 use native.Mathlib.Omega.{arith}
-use Rattle.digraph.specs.Adjacency.{out-of}
-use Rattle.cuts.specs.Thresholds.{Next}
+use Rattle.laws.specs.Lists.{at}
+use Rattle.cuts.specs.Thresholds.{Next-value}
 use Rattle.cuts.proofs.Columns.{place-next}
 use Rattle.cuts.proofs.Nearer.{next-none}
 use borrow.Author.Needs.{needs}
@@ -11,7 +11,7 @@ use Rattle.cuts.proofs.sets.next_value.Statement.{statement}
 use Rattle.cuts.proofs.sets.next_value.Tie as tie
 
 abbrev Inv-loop : tie.InvT-loop
-Inv-loop potential n low best₀ k₀ best k = (k ≤ n) × Next k (out-of potential) low best
+Inv-loop potential n low best₀ k₀ best k = (k ≤ n) × Next-value k (at potential) low best
 
 abbrev μ-loop : tie.MeasureT-loop
 μ-loop potential n low best₀ k₀ best k = n - k
@@ -21,7 +21,7 @@ abbrev at-loop : tie.After-nearer Inv-loop μ-loop → tie.At-loop Inv-loop μ-l
 at-loop c = c .before .before .before
 
 loop-holds : tie.Need-loop-holds Inv-loop μ-loop
-loop-holds c = (omega arith, next-none (out-of (c .args .potential .now)) (c .args .low))
+loop-holds c = (omega arith, next-none (at (c .args .potential .now)) (c .args .low))
 
 mul-nearer : tie.Need-mul-nearer Inv-loop μ-loop
 mul-nearer c = search needs
@@ -40,7 +40,7 @@ loop-less c = search needs
 
 loop-again : tie.Need-loop-again Inv-loop μ-loop
 loop-again c = let l = at-loop c .loop in let a = at-loop c .before .args in
-    (omega arith, c .nearer .ensures (out-of (a .potential .now)) (l .k) (place-next (a .potential .now) (l .k)) (l .inv .1))
+    (omega arith, c .nearer .ensures (at (a .potential .now)) (l .k) (place-next (a .potential .now) (l .k)) (l .inv .1))
 
 returns : tie.Need-returns Inv-loop μ-loop
 returns c = let l = c .before .loop in let e : l .k ≡ c .before .before .args .n = omega arith in rw e at (l .inv .1)

@@ -5,8 +5,8 @@ use mathlib.Core.List.{List}
 use Prim.Native.Nat.{ℕ, _≤_, _-_}
 use native.Mathlib.Omega.{arith}
 use lib.Dec.{leb}
+use Rattle.laws.specs.Lists.{at}
 use Rattle.junctions.specs.Sets.{gather}
-use Rattle.digraph.specs.Adjacency.{out-of}
 use Rattle.certificates.specs.Cuts.{upper}
 use Rattle.cuts.proofs.Columns.{place-next}
 use borrow.Author.Needs.{needs}
@@ -15,7 +15,7 @@ use Rattle.cuts.proofs.sets.upper_set.Tie as tie
 
 -- junction j's potential is at least the threshold
 abbrev high : (potential : List ℕ) → (threshold j : ℕ) → Bool
-high potential threshold j = leb threshold (out-of potential j)
+high potential threshold j = leb threshold (at potential j)
 
 abbrev Inv-loop : tie.InvT-loop
 Inv-loop potential n threshold set₀ k₀ set k = (k ≤ n) × (set ≡ gather k (high potential threshold))

@@ -5,14 +5,14 @@ use native.Mathlib.Omega.{arith}
 use lib.Bits.{bitAnd}
 use Rattle.certificates.specs.Pieces.{inside}
 use Rattle.cuts.specs.Listed.{place-of}
-use Rattle.cuts.specs.Columns.{Filled}
+use Rattle.cuts.specs.Columns.{Filled-to}
 use Rattle.cuts.proofs.Columns.{filled-none, filled-more}
 use borrow.Author.Needs.{needs}
 use Rattle.cuts.proofs.sets.within.Statement.{statement}
 use Rattle.cuts.proofs.sets.within.Tie as tie
 
 abbrev Inv-loop : tie.InvT-loop
-Inv-loop adjacency set arcs₀ k₀ arcs k = (k ≤ 64) × Filled 64 (λ (i : ℕ). bitAnd set (place-of adjacency i)) k arcs
+Inv-loop adjacency set arcs₀ k₀ arcs k = (k ≤ 64) × Filled-to 64 (λ (i : ℕ). bitAnd set (place-of adjacency i)) k arcs
 
 abbrev μ-loop : tie.MeasureT-loop
 μ-loop adjacency set arcs₀ k₀ arcs k = 64 - k

@@ -4,8 +4,8 @@ use Prim.Native.Nat.{ℕ, _<_}
 use native.Mathlib.Omega.{arith}
 use lib.Bits.{bitAnd, bitXor}
 use lib.Count.{trailing-le}
+use Rattle.laws.specs.Lists.{at}
 use Rattle.junctions.proofs.Bits.{trailing-lt}
-use Rattle.digraph.specs.Adjacency.{out-of}
 use Rattle.cuts.specs.Listed.{Fits, Added}
 use Rattle.cuts.specs.Shores.{components-weigh, Classes}
 use Rattle.cuts.proofs.Components.{classes-start, classes-end, classes-fits, classes-more, classes-less}
@@ -14,7 +14,7 @@ use Rattle.cuts.proofs.shores.add_classes.Statement.{statement}
 use Rattle.cuts.proofs.shores.add_classes.Tie as tie
 
 abbrev Inv-loop : tie.InvT-loop
-Inv-loop n links mates set weight shores₀ weights₀ count inside left₀ filled₀ shores weights left filled = Classes n (out-of links) (out-of mates) set weight count shores₀ weights₀ left filled shores weights
+Inv-loop n links mates set weight shores₀ weights₀ count inside left₀ filled₀ shores weights left filled = Classes n (at links) (at mates) set weight count shores₀ weights₀ left filled shores weights
 
 abbrev μ-loop : tie.MeasureT-loop
 μ-loop n links mates set weight shores₀ weights₀ count inside left₀ filled₀ shores weights left filled = left
@@ -32,7 +32,7 @@ module _ (c : tie.After-reach Inv-loop μ-loop) where
   s = at-start l
 
   abbrev links : ℕ → ℕ
-  links = out-of (s .args .links .now)
+  links = at (s .args .links .now)
 
   abbrev left : ℕ
   left = l .loop .left
@@ -50,14 +50,14 @@ module _ (c : tie.After-reach Inv-loop μ-loop) where
   less = classes-less links (s .args .weight) (s .pre .0) (s .pre .2) (l .loop .inv) (s .pre .4) some (l .before .within .ensures .1) (c .reach .ensures)
 
   more : {count : ℕ} {shores weights : List ℕ} → Added (l .loop .filled) (l .loop .shores) (l .loop .weights) (components-weigh (s .args .n) links found (s .args .weight)) count shores weights
-      → Classes (s .args .n) links (out-of (s .args .mates .now)) (s .args .set) (s .args .weight) (s .args .count) (s .args .shores .now) (s .args .weights .now) (bitXor left (bitAnd left found)) count shores weights
+      → Classes (s .args .n) links (at (s .args .mates .now)) (s .args .set) (s .args .weight) (s .args .count) (s .args .shores .now) (s .args .weights .now) (bitXor left (bitAnd left found)) count shores weights
   more = classes-more links (s .args .weight) (s .pre .0) (s .pre .2) (l .loop .inv) (s .pre .4) some (l .before .within .ensures .1) (c .reach .ensures)
 
 within-requires : tie.Need-within-requires Inv-loop μ-loop
 within-requires c κs = search needs
 
 loop-holds : tie.Need-loop-holds Inv-loop μ-loop
-loop-holds c = let s = c .before .before .before in classes-start (out-of (s .args .links .now)) (s .args .weight) (s .pre .0) (s .pre .2) (s .pre .5 .listed)
+loop-holds c = let s = c .before .before .before in classes-start (at (s .args .links .now)) (s .args .weight) (s .pre .0) (s .pre .2) (s .pre .5 .listed)
 
 cast-reach : tie.Need-cast-reach Inv-loop μ-loop
 cast-reach c = record { fits = omega (arith, trailing-le 64 (c .before .before .loop .left)) }
@@ -89,7 +89,7 @@ same-length-2 c = c .before .loop .inv .adding .weights-size
 
 returns : tie.Need-returns Inv-loop μ-loop
 returns c = let l = c .before in let s = at-start l in
-    classes-end (out-of (s .args .links .now)) (s .args .weight) (s .pre .0) (s .pre .2) (l .loop .inv) (c .loop-test .left)
+    classes-end (at (s .args .links .now)) (s .args .weight) (s .pre .0) (s .pre .2) (l .loop .inv) (c .loop-test .left)
 
 pub add-classes-spec : {M : Type 1} → statement M
 add-classes-spec =

@@ -4,8 +4,8 @@ use Prim.Native.Nat.{ℕ, _<_}
 use native.Mathlib.Omega.{arith}
 use lib.Bits.{bitAnd, bitXor}
 use lib.Count.{trailing-le}
+use Rattle.laws.specs.Lists.{at}
 use Rattle.junctions.proofs.Bits.{trailing-lt}
-use Rattle.digraph.specs.Adjacency.{out-of}
 use Rattle.cuts.specs.Listed.{Fits, Added, alone}
 use Rattle.cuts.specs.Shores.{Components}
 use Rattle.cuts.proofs.Components.{components-start, components-end, components-fits, components-more, components-less}
@@ -14,7 +14,7 @@ use Rattle.cuts.proofs.shores.add_components.Statement.{statement}
 use Rattle.cuts.proofs.shores.add_components.Tie as tie
 
 abbrev Inv-loop : tie.InvT-loop
-Inv-loop n links class weight shores₀ weights₀ count all free inside left₀ filled₀ shores weights left filled = Components n (out-of links) class weight count shores₀ weights₀ left filled shores weights
+Inv-loop n links class weight shores₀ weights₀ count all free inside left₀ filled₀ shores weights left filled = Components n (at links) class weight count shores₀ weights₀ left filled shores weights
 
 abbrev μ-loop : tie.MeasureT-loop
 μ-loop n links class weight shores₀ weights₀ count all free inside left₀ filled₀ shores weights left filled = left
@@ -53,7 +53,7 @@ module _ (c : tie.After-reach Inv-loop μ-loop) where
   less = components-less (s .args .class) (s .args .weight) (at-full l .full .ensures) (s .pre .0) (l .loop .inv) (s .pre .2) some (l .before .within .ensures .1) (c .reach .ensures)
 
   more : {count : ℕ} {shores weights : List ℕ} → Added (l .loop .filled) (l .loop .shores) (l .loop .weights) (alone (bitXor all (bitAnd all found)) (s .args .weight)) count shores weights
-      → Components (s .args .n) (out-of (s .args .links .now)) (s .args .class) (s .args .weight) (s .args .count) (s .args .shores .now) (s .args .weights .now) (bitXor left (bitAnd left found)) count shores weights
+      → Components (s .args .n) (at (s .args .links .now)) (s .args .class) (s .args .weight) (s .args .count) (s .args .shores .now) (s .args .weights .now) (bitXor left (bitAnd left found)) count shores weights
   more = components-more (s .args .class) (s .args .weight) (at-full l .full .ensures) (s .pre .0) (l .loop .inv) (s .pre .2) some (l .before .within .ensures .1) (c .reach .ensures)
 
 full-requires : tie.Need-full-requires Inv-loop μ-loop

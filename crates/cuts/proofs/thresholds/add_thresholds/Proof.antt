@@ -1,7 +1,7 @@
 -- `thresholds::add_thresholds` adds the shores of every upper set of the potential. The invariant: the places filled so far are those of all thresholds up to `low`. The measure is how far `low` is below 2^32: the next value is higher, and no value is over the top. Assumes nothing.
 use Prim.Native.Nat.{ℕ, _-_, _^_, _≤_, _<_}
 use native.Mathlib.Omega.{arith}
-use Rattle.digraph.specs.Adjacency.{out-of}
+use Rattle.laws.specs.Lists.{at}
 use Rattle.cuts.specs.Listed.{Added}
 use Rattle.cuts.specs.Shores.{levels-weigh}
 use Rattle.cuts.proofs.UpperSets.{next-high, upper-fits, added-none, fits-next, added-next, added-all}
@@ -10,7 +10,7 @@ use Rattle.cuts.proofs.thresholds.add_thresholds.Statement.{statement}
 use Rattle.cuts.proofs.thresholds.add_thresholds.Tie as tie
 
 abbrev Inv-loop : tie.InvT-loop
-Inv-loop n links mates potential shores₀ weights₀ low₀ filled₀ shores weights low filled = Added 0 shores₀ weights₀ (levels-weigh n (out-of links) (out-of mates) (out-of potential) low) filled shores weights
+Inv-loop n links mates potential shores₀ weights₀ low₀ filled₀ shores weights low filled = Added 0 shores₀ weights₀ (levels-weigh n (at links) (at mates) (at potential) low) filled shores weights
 
 abbrev μ-loop : tie.MeasureT-loop
 μ-loop n links mates potential shores₀ weights₀ low₀ filled₀ shores weights low filled = 2 ^ 32 - low
@@ -21,13 +21,13 @@ module _ (s : tie.Start Inv-loop μ-loop) where
   n = s .args .n
 
   abbrev links : ℕ → ℕ
-  links = out-of (s .args .links .now)
+  links = at (s .args .links .now)
 
   abbrev mates : ℕ → ℕ
-  mates = out-of (s .args .mates .now)
+  mates = at (s .args .mates .now)
 
   abbrev potential : ℕ → ℕ
-  potential = out-of (s .args .potential .now)
+  potential = at (s .args .potential .now)
 
   -- no value is over the top
   abbrev top : ℕ

@@ -39,7 +39,7 @@ use denote.Triple.Table.{entered, cited}
 use denote.Triple.Walked.{says, needs, Stays, stay-none, walkOf, goes-none, Walks, ends-at, walked, walk-meets}
 use denote.Exit.{yes}
 use denote.Triple.Clauses.{ensured, lasts}
-use Rattle.hallfile.specs.Steps.{Ahead, Next}
+use Rattle.hallfile.specs.Steps.{Row-ahead, Next-row}
 use Rattle.hallfile.specs.declared.view.Rows.{Rows}
 use Rattle.hallfile.specs.declared.places.Step.{Step}
 use Rattle.hallfile.proofs.view.Rows as T
@@ -75,7 +75,7 @@ module _ {M : Type 1} (𝓤 : URA M) (H : Heap 𝓤) (A : Atoms 𝓤) (mem : Mem
   abbrev StepFrom : Contract 𝓤
   StepFrom = tripleOf 𝓤 H A step.signature (step.spec 𝓤 H A mem run)
 
-module _ {M : Type 1} (𝓤 : URA M) (H : Heap 𝓤) (A : Atoms 𝓤) (W : Given 𝓤 H A) (mem : Memory → SProp 𝓤) (run : Routine → Fun 𝓤) (κ : Lft) (q : Share) (d : Rows) (ahead : Ahead (now (d .file)) (d .place)) where
+module _ {M : Type 1} (𝓤 : URA M) (H : Heap 𝓤) (A : Atoms 𝓤) (W : Given 𝓤 H A) (mem : Memory → SProp 𝓤) (run : Routine → Fun 𝓤) (κ : Lft) (q : Share) (d : Rows) (ahead : Row-ahead (now (d .file)) (d .place)) where
   abbrev κs : Lfts 1
   κs = (κ, tt)
 
@@ -108,10 +108,10 @@ module _ {M : Type 1} (𝓤 : URA M) (H : Heap 𝓤) (A : Atoms 𝓤) (W : Given
       move ! (2 ∷ 0 ∷ []) $ use2 W (raw (StepFrom 𝓤 H A mem run .pre to)) asked $ frame ! $ done !)
 
   -- of the callee's `ensured`, the clause alone: it has no `&mut`, so what is said of last values is dropped
-  said : (r : Step) → ent 𝓤 (ensured 𝓤 H A step.ended (step.clauses 𝓤 H A mem run) κs (d .file, (d .place, tt)) tt r) (fact 𝓤 (Next (now (d .file)) (d .place) r))
-  said r = exE 𝓤 _ (λ ws. snd∗ 𝓤 (sem 𝓤 H A (lasts step.ended κs (d .file, (d .place, tt)) ws)) (fact 𝓤 (Next (now (d .file)) (d .place) r)))
+  said : (r : Step) → ent 𝓤 (ensured 𝓤 H A step.ended (step.clauses 𝓤 H A mem run) κs (d .file, (d .place, tt)) tt r) (fact 𝓤 (Next-row (now (d .file)) (d .place) r))
+  said r = exE 𝓤 _ (λ ws. snd∗ 𝓤 (sem 𝓤 H A (lasts step.ended κs (d .file, (d .place, tt)) ws)) (fact 𝓤 (Next-row (now (d .file)) (d .place) r)))
 
-  exits : (r : Step) (u : Val) → Next (now (d .file)) (d .place) r → ent 𝓤 (⋆ 𝓤 H A (‵ (S.the-row .own r (u ∷ [])) ∷ (‵ (flft κ q) ⊛ ‵ ftrue) ∷ ‵ Own ∷ [])) (Post u)
+  exits : (r : Step) (u : Val) → Next-row (now (d .file)) (d .place) r → ent 𝓤 (⋆ 𝓤 H A (‵ (S.the-row .own r (u ∷ [])) ∷ (‵ (flft κ q) ⊛ ‵ ftrue) ∷ ‵ Own ∷ [])) (Post u)
   exits r u e =
       qed W (‵ (S.the-row .own r (u ∷ [])) ∷ (‵ (flft κ q) ⊛ ‵ ftrue) ∷ ‵ Own ∷ []) ∵
       suffices ! _ (ends-at 𝓤 H A next.ended stayed (next.clauses 𝓤 H A mem run) W ((κs, (q, tt), tt, (d, tt), (mach ∷ [], tt)), tt) u r (tt, tt) (tt, tt)) $ says ! e $
@@ -127,7 +127,7 @@ module _ {M : Type 1} (𝓤 : URA M) (H : Heap 𝓤) (A : Atoms 𝓤) (W : Given
         move ! (8 ∷ []) $ use1 W (raw (StepFrom 𝓤 H A mem run .pre to) ⊛ ‵ Own) apart $ split ! $
         calls-at ! fm (StepFrom 𝓤 H A mem run) known to (and-then ! (load ! (from ! (stop !)) (look ! 4 refl)) (and-then ! (load ! (from ! (stop !)) (look ! 2 refl)) (no-more !))) (λ u.
         use1 W (later (some (λ (r : Step). ((‵ (flft κ q) ⊛ ‵ ftrue) ⊛ ‵ (S.the-row .own r (u ∷ []))) ⊛ raw (ensured 𝓤 H A step.ended (step.clauses 𝓤 H A mem run) κs (d .file, (d .place, tt)) tt r)))) (id⊢ 𝓤 _) $ await ! tt $ pick ! (λ r.
-        split ! $ move ! (1 ∷ []) $ use1 W (raw (fact 𝓤 (Next (now (d .file)) (d .place) r))) (said r) $ heard ! (Next (now (d .file)) (d .place) r) (λ e. split ! $ move ! (1 ∷ []) $
+        split ! $ move ! (1 ∷ []) $ use1 W (raw (fact 𝓤 (Next-row (now (d .file)) (d .place) r))) (said r) $ heard ! (Next-row (now (d .file)) (d .place) r) (λ e. split ! $ move ! (1 ∷ []) $
         -- [the result; the token; what the view owns; _3; …; _2; …; _1; …; room for _0; …]
         peeks ! S.the-row (Is S.the-row) (shows 𝓤 H A S.the-row) r (u ∷ []) (λ is.
         land ! (from ! (stop !)) (init ! 9 refl (LL.lawful S.the-type S′.the-laws 𝓤 H A W .typed r _ is .0)) $

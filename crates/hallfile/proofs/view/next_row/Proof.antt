@@ -38,7 +38,7 @@ use denote.Triple.Table.{entered, cited}
 use denote.Triple.Walked.{says, needs, Stays, stay-none, stay-none-slice, walkOf, goes-none, goes-none-slice, Walks, ends-at, walked, walk-meets}
 use denote.Exit.{yes}
 use denote.Triple.Clauses.{ensured, lasts}
-use Rattle.hallfile.specs.Steps.{Ahead, Next}
+use Rattle.hallfile.specs.Steps.{Row-ahead, Next-row}
 use Rattle.hallfile.specs.declared.view.Rows.{Rows}
 use Rattle.hallfile.specs.declared.places.Place.{Place}
 use Rattle.hallfile.specs.declared.places.Step.{Step}
@@ -69,7 +69,7 @@ module _ {M : Type 1} (𝓤 : URA M) (H : Heap 𝓤) (A : Atoms 𝓤) (mem : Mem
   abbrev NextOf : Contract 𝓤
   NextOf = tripleOf 𝓤 H A next.signature (next.spec 𝓤 H A mem run)
 
-module _ {M : Type 1} (𝓤 : URA M) (H : Heap 𝓤) (A : Atoms 𝓤) (W : Given 𝓤 H A) (mem : Memory → SProp 𝓤) (run : Routine → Fun 𝓤) (κ : Lft) (q : Share) (s : RefT (List ℕ)) (p : Place) (ahead : Ahead (now s) p) where
+module _ {M : Type 1} (𝓤 : URA M) (H : Heap 𝓤) (A : Atoms 𝓤) (W : Given 𝓤 H A) (mem : Memory → SProp 𝓤) (run : Routine → Fun 𝓤) (κ : Lft) (q : Share) (s : RefT (List ℕ)) (p : Place) (ahead : Row-ahead (now s) p) where
   abbrev κs : Lfts 1
   κs = (κ, tt)
 
@@ -123,10 +123,10 @@ module _ {M : Type 1} (𝓤 : URA M) (H : Heap 𝓤) (A : Atoms 𝓤) (W : Given
       -- [what the view owns; what the parameters own; the token]
       nothing ! $ move ! (1 ∷ 0 ∷ []) $ fjoin ! $ move ! (2 ∷ 0 ∷ []) $ use2 W (raw (NextOf 𝓤 H A mem run .pre to)) asked $ frame ! $ done !
 
-  said : (r : Step) → ent 𝓤 (ensured 𝓤 H A next.ended (next.clauses 𝓤 H A mem run) κs (made, tt) tt r) (fact 𝓤 (Next (now s) p r))
-  said r = exE 𝓤 _ (λ ws. snd∗ 𝓤 (sem 𝓤 H A (lasts next.ended κs (made, tt) ws)) (fact 𝓤 (Next (now s) p r)))
+  said : (r : Step) → ent 𝓤 (ensured 𝓤 H A next.ended (next.clauses 𝓤 H A mem run) κs (made, tt) tt r) (fact 𝓤 (Next-row (now s) p r))
+  said r = exE 𝓤 _ (λ ws. snd∗ 𝓤 (sem 𝓤 H A (lasts next.ended κs (made, tt) ws)) (fact 𝓤 (Next-row (now s) p r)))
 
-  exits : (r : Step) (u : Val) → Next (now s) p r → ent 𝓤 (⋆ 𝓤 H A (‵ (S.the-row .own r (u ∷ [])) ∷ (‵ (flft κ q) ⊛ ‵ ftrue) ∷ ‵ Own ∷ [])) (Post u)
+  exits : (r : Step) (u : Val) → Next-row (now s) p r → ent 𝓤 (⋆ 𝓤 H A (‵ (S.the-row .own r (u ∷ [])) ∷ (‵ (flft κ q) ⊛ ‵ ftrue) ∷ ‵ Own ∷ [])) (Post u)
   exits r u e =
       qed W (‵ (S.the-row .own r (u ∷ [])) ∷ (‵ (flft κ q) ⊛ ‵ ftrue) ∷ ‵ Own ∷ []) ∵
       suffices ! _ (ends-at 𝓤 H A next-row.ended stayed (next-row.clauses 𝓤 H A mem run) W ((κs, (q, tt), tt, (s, (p, tt)), at), tt) u r (tt, (tt, tt)) (tt, (tt, tt))) $ says ! e $
@@ -143,7 +143,7 @@ module _ {M : Type 1} (𝓤 : URA M) (H : Heap 𝓤) (A : Atoms 𝓤) (W : Given
         move ! (8 ∷ []) $ use1 W (raw (NextOf 𝓤 H A mem run .pre to) ⊛ ‵ Own) goes $ split ! $
         calls-at ! fm (NextOf 𝓤 H A mem run) known to (and-then ! (load ! (from ! (stop !)) (look ! 2 refl)) (no-more !)) (λ u.
         use1 W (later (some (λ (r : Step). ((‵ (flft κ q) ⊛ ‵ ftrue) ⊛ ‵ (S.the-row .own r (u ∷ []))) ⊛ raw (ensured 𝓤 H A next.ended (next.clauses 𝓤 H A mem run) κs (made, tt) tt r)))) (id⊢ 𝓤 _) $ await ! tt $ pick ! (λ r.
-        split ! $ move ! (1 ∷ []) $ use1 W (raw (fact 𝓤 (Next (now s) p r))) (said r) $ heard ! (Next (now s) p r) (λ e. split ! $ move ! (1 ∷ []) $
+        split ! $ move ! (1 ∷ []) $ use1 W (raw (fact 𝓤 (Next-row (now s) p r))) (said r) $ heard ! (Next-row (now s) p r) (λ e. split ! $ move ! (1 ∷ []) $
         -- [the result; the token; what the parameters own; _3; …; _2; …; _1; …; room for _0; …]
         peeks ! S.the-row (Is S.the-row) (shows 𝓤 H A S.the-row) r (u ∷ []) (λ is.
         land ! (from ! (stop !)) (init ! 9 refl (LL.lawful S.the-type S′.the-laws 𝓤 H A W .typed r _ is .0)) $

@@ -5,10 +5,10 @@ use Prim.Native.Nat.{ℕ, _+_, _^_, _≤_, _<_}
 use native.Mathlib.Omega.{arith}
 use lib.Bits.{bitOr}
 use lib.Count.{trailingZeros, trailing-le}
+use Rattle.laws.specs.Lists.{at}
 use Rattle.junctions.specs.Sets.{Within}
 use Rattle.junctions.proofs.Bits.{trailing-lt}
 use Rattle.junctions.proofs.Sets.{lowest-is}
-use Rattle.digraph.specs.Adjacency.{out-of}
 use Rattle.digraph.specs.Search.{unexpanded}
 use Rattle.tight.specs.Growth.{Known, Growing}
 use Rattle.tight.proofs.Sure.{sure-of, growing-step, growing-fits, within-more, more-within}
@@ -20,8 +20,8 @@ use Rattle.tight.proofs.growth.grow.Tie as tie
 abbrev Inv-loop : tie.InvT-loop
 Inv-loop arcs solid known set once more grown₀ todo₀ found₀ grown todo found =
     (todo < 2 ^ 64) × Within todo grown × Within (bitOr set more) grown ×
-    ((v : ℕ) → Known (out-of arcs) (out-of solid) (out-of known) → Growing (out-of arcs) (out-of solid) v (bitOr set more) more once →
-    Growing (out-of arcs) (out-of solid) v grown todo found)
+    ((v : ℕ) → Known (at arcs) (at solid) (at known) → Growing (at arcs) (at solid) v (bitOr set more) more once →
+    Growing (at arcs) (at solid) v grown todo found)
 
 abbrev μ-loop : tie.MeasureT-loop
 μ-loop arcs solid known set once more grown₀ todo₀ found₀ grown todo found = unexpanded 64 grown todo
@@ -76,7 +76,7 @@ loop-again c = let at-loop = at-known c .before in let l = at-loop .loop in let 
       pending-within (l .grown) (l .todo) sure (omega arith) (l .inv .0) (l .inv .1),
       within-more (bitOr (a .set) (a .more)) (l .grown) sure (l .inv .2),
       λ v known g.
-          growing-step (out-of (a .arcs .now)) (out-of (a .solid .now)) v (l .grown) (l .todo) (l .found) (next .result) (strong .result) (near .result)
+          growing-step (at (a .arcs .now)) (at (a .solid .now)) v (l .grown) (l .todo) (l .found) (next .result) (strong .result) (near .result)
           (omega arith) (l .inv .0) (next .ensures) (strong .ensures)
           (rw (near .ensures) (known (trailingZeros 64 (l .todo) + 1) (low .from-one) (low .to-last))) (l .inv .3 v known g),
     )

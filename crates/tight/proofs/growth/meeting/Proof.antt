@@ -5,15 +5,15 @@ use native.Mathlib.Omega.{arith}
 use lib.Bits.{bitAnd}
 use lib.Count.{trailingZeros, trailing-le}
 use borrow.Author.Needs.{needs}
+use Rattle.laws.specs.Lists.{at}
 use Rattle.junctions.proofs.Bits.{trailing-lt}
 use Rattle.junctions.proofs.Words.{clear-less}
-use Rattle.digraph.specs.Adjacency.{out-of}
 use Rattle.tight.proofs.Meetings.{Keeping, keeping-start, next-head, next-rest, head-free, keeping-met, keeping-step, keeping-end}
 use Rattle.tight.proofs.growth.meeting.Statement.{statement}
 use Rattle.tight.proofs.growth.meeting.Tie as tie
 
 abbrev Inv-loop : tie.InvT-loop
-Inv-loop arcs set heads other₀ rest₀ other rest = (rest < 2 ^ 64) × Keeping (out-of arcs) set heads other rest
+Inv-loop arcs set heads other₀ rest₀ other rest = (rest < 2 ^ 64) × Keeping (at arcs) set heads other rest
 
 abbrev μ-loop : tie.MeasureT-loop
 μ-loop arcs set heads other₀ rest₀ other rest = rest
@@ -23,7 +23,7 @@ abbrev at-loop : tie.After-search-beside Inv-loop μ-loop → tie.At-loop Inv-lo
 at-loop c = c .before .before
 
 loop-holds : tie.Need-loop-holds Inv-loop μ-loop
-loop-holds c = let a = c .args in (omega arith, keeping-start (out-of (a .arcs .now)) (a .set) (a .heads))
+loop-holds c = let a = c .args in (omega arith, keeping-start (at (a .arcs .now)) (a .set) (a .heads))
 
 cast-place : tie.Need-cast-place Inv-loop μ-loop
 cast-place c = record { fits = omega (arith, trailing-le 64 (c .before .loop .rest)) }
@@ -31,14 +31,14 @@ cast-place c = record { fits = omega (arith, trailing-le 64 (c .before .loop .re
 search-beside-requires : tie.Need-search-beside-requires Inv-loop μ-loop
 search-beside-requires c κs = let l = c .before .loop in let s = c .before .before in let a = s .args in (
   trailing-lt 64 (l .rest) (omega arith) (l .inv .0),
-  head-free (out-of (a .arcs .now)) (a .set) (a .heads) (l .other) (l .rest) (suc (trailingZeros 64 (l .rest))) (omega arith)
+  head-free (at (a .arcs .now)) (a .set) (a .heads) (l .other) (l .rest) (suc (trailingZeros 64 (l .rest))) (omega arith)
       (next-head (l .rest) (omega arith) (l .inv .0)) (s .pre) (l .inv .1),
 )
 
 returns : tie.Need-returns Inv-loop μ-loop
 returns c = let l = at-loop (c .before) .loop in let s = at-loop (c .before) .before in let a = s .args in
     let r = c .before .search-beside .result in
-    keeping-met (out-of (a .arcs .now)) (a .set) (a .heads) (l .other) (l .rest) (suc (trailingZeros 64 (l .rest))) (r .seen) (r .met) (omega arith)
+    keeping-met (at (a .arcs .now)) (a .set) (a .heads) (l .other) (l .rest) (suc (trailingZeros 64 (l .rest))) (r .seen) (r .met) (omega arith)
     (next-head (l .rest) (omega arith) (l .inv .0)) (s .pre) (l .inv .1) (c .before .search-beside .ensures) (c .if1 .taken)
 
 sub-rest : tie.Need-sub-rest Inv-loop μ-loop
@@ -51,14 +51,14 @@ loop-again : tie.Need-loop-again Inv-loop μ-loop
 loop-again c = let l = at-loop (c .before) .loop in let s = at-loop (c .before) .before in let a = s .args in
     let r = c .before .search-beside .result in (
       omega (arith, clear-less (l .rest) (omega arith)),
-      keeping-step (out-of (a .arcs .now)) (a .set) (a .heads) (l .other) (l .rest) (suc (trailingZeros 64 (l .rest))) (r .seen) (r .met) (omega arith)
+      keeping-step (at (a .arcs .now)) (a .set) (a .heads) (l .other) (l .rest) (suc (trailingZeros 64 (l .rest))) (r .seen) (r .met) (omega arith)
           (next-head (l .rest) (omega arith) (l .inv .0)) (s .pre) (l .inv .1) (c .before .search-beside .ensures)
           (bitAnd (l .rest) (l .rest - 1)) (c .if1 .left) (λ i q. next-rest (l .rest) i (omega arith) (l .inv .0) q),
     )
 
 returns-2 : tie.Need-returns-2 Inv-loop μ-loop
 returns-2 c = let l = c .before .loop in let a = c .before .before .args in
-    keeping-end (out-of (a .arcs .now)) (a .set) (a .heads) (l .other) (l .rest) (omega arith) (l .inv .1)
+    keeping-end (at (a .arcs .now)) (a .set) (a .heads) (l .other) (l .rest) (omega arith) (l .inv .1)
 
 pub meeting-spec : {M : Type 1} → statement M
 meeting-spec =

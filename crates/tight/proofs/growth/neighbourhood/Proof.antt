@@ -7,11 +7,11 @@ use Prim.Native.Nat.{ℕ, _-_, _^_, _≤_, _<_}
 use native.Mathlib.Omega.{arith}
 use lib.Bits.{bitOr, or-zero-r}
 use lib.Pow.{pow-pos}
+use Rattle.laws.specs.Lists.{at}
 use Rattle.junctions.specs.Sets.{holds}
 use Rattle.junctions.proofs.Bits.{one-shl}
 use Rattle.junctions.proofs.Sets.{none-holds}
-use Rattle.digraph.specs.Adjacency.{out-of}
-use Rattle.tight.specs.Growth.{Known, Growing, Parted}
+use Rattle.tight.specs.Growth.{Known, Growing, Kept-apart}
 use Rattle.tight.proofs.Meetings.{less, less-r}
 use Rattle.tight.proofs.Meets.{growing-start, growing-meeting, grown-all, set-more}
 use borrow.Author.Needs.{needs}
@@ -21,8 +21,8 @@ use Rattle.tight.proofs.growth.neighbourhood.Tie as tie
 abbrev Inv-loop : tie.InvT-loop
 Inv-loop arcs solid known v set₀ once₀ met₀ set once met =
     (set < 2 ^ 64) × ((y : ℕ) → 1 ≤ y → holds met y ≡ true → holds set y ≡ false)
-    × (Known (out-of arcs) (out-of solid) (out-of known) → Growing (out-of arcs) (out-of solid) v (bitOr set met) met once)
-    × (met ≡ 0 → (all : ℕ) × Parted (out-of arcs) set (less once set) all)
+    × (Known (at arcs) (at solid) (at known) → Growing (at arcs) (at solid) v (bitOr set met) met once)
+    × (met ≡ 0 → (all : ℕ) × Kept-apart (at arcs) set (less once set) all)
 
 abbrev μ-loop : tie.MeasureT-loop
 μ-loop arcs solid known v set₀ once₀ met₀ set once met = 2 ^ 64 - set
@@ -42,7 +42,7 @@ loop-holds c = let a = c .args in
     rw (one-shl (a .v - 1) (omega arith)) (
       omega arith,
       λ y l t. none-holds y,
-      λ known. growing-start (out-of (a .arcs .now)) (out-of (a .solid .now)) (a .v) (c .pre .0),
+      λ known. growing-start (at (a .arcs .now)) (at (a .solid .now)) (a .v) (c .pre .0),
       λ e. absurd (omega (arith, pow-pos (a .v - 1))),
     )
 
@@ -61,7 +61,7 @@ loop-again c = let l = at-loop c .loop in let a = at-loop c .before .args in let
   omega (arith, g .ok),
   λ y k t. c .meeting .ensures .met y k t .0,
   λ known.
-      growing-meeting (out-of (a .arcs .now)) (out-of (a .solid .now)) (a .v) (g .result .set) (g .result .once)
+      growing-meeting (at (a .arcs .now)) (at (a .solid .now)) (a .v) (g .result .set) (g .result .once)
       (g .ensures .1 (a .v) known (l .inv .2 known)) (c .meeting .result) (c .meeting .ensures),
   c .meeting .ensures .none,
 )
@@ -71,7 +71,7 @@ returns c = let l = c .before .loop in let at-start = c .before .before in let a
     let done : l .met ≡ 0 = c .loop-test .left in
     let last = l .inv .3 done in
     λ known.
-    grown-all (out-of (a .arcs .now)) (out-of (a .solid .now)) (a .v) (l .set) (l .once)
+    grown-all (at (a .arcs .now)) (at (a .solid .now)) (a .v) (l .set) (l .once)
     (rw (done, or-zero-r (l .set)) at (l .inv .2 known)) (p .0) (p .1) (l .inv .0) (last .0) (last .1)
 
 pub neighbourhood-spec : {M : Type 1} → statement M

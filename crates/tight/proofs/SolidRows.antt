@@ -11,6 +11,7 @@ use lib.Dec.{eqb, leb}
 use lib.ListN.{length, getD, set, replicate, length-set}
 use lib.Seq.{getD-set-same, getD-set-other}
 use borrow.Author.Tests.{eqb-true, eqb-false, eq-eqb, ne-eqb, leb-true, le-leb}
+use Rattle.laws.specs.Lists.{at}
 use Rattle.laws.specs.Finite.{any-below, sum-below, count-below, one-if}
 use Rattle.laws.proofs.Booleans.{by-bool, clash, or-r, bool-ext}
 use Rattle.laws.proofs.Agree.{any-ext}
@@ -20,10 +21,10 @@ use Rattle.junctions.specs.Sets.{holds}
 use Rattle.junctions.proofs.Bits.{one-shl}
 use Rattle.junctions.proofs.Sets.{and-holds, or-holds, one-holds, none-holds}
 use Rattle.hall.specs.Hall.{Hall}
-use Rattle.columns.specs.Columns.{at, flagged, Columns}
+use Rattle.columns.specs.Columns.{flagged, Columns}
 use Rattle.columns.proofs.Places.{place-tail, place-head}
-use Rattle.tight.specs.Firming.{ahead, back, Firming}
-use Rattle.tight.specs.Solid.{forward, backward, solid, Firm}
+use Rattle.tight.specs.SolidRows.{ahead, back, Solid-rows}
+use Rattle.tight.specs.Solid.{forward, backward, solid, Solid-arcs}
 
 -- the code's 1 << (b - 1)
 abbrev mask : ℕ → ℕ
@@ -51,14 +52,14 @@ grown-holds sets a more size la ma x y lx =
     ∙ sym (or-false (holds (at sets x) y))))
 
 -- no row
-pub firm-none : (ts hs : List ℕ) (fs : List Bool) → Firming 0 ts hs fs (replicate 64 0) (replicate 64 0)
+pub solid-none : (ts hs : List ℕ) (fs : List Bool) → Solid-rows 0 ts hs fs (replicate 64 0) (replicate 64 0)
 unfolding any-below count-below sum-below
-firm-none ts hs fs =
+solid-none ts hs fs =
     record {
       once-size = refl;
-      firm-size = refl;
+      solids-size = refl;
       once-holds = λ x y l k. ap (λ (s : ℕ). holds s y) (replicate-at {A = ℕ} 64 (x - 1) 0) ∙ none-holds y;
-      firm-holds = λ x y l k. ap (λ (s : ℕ). holds s y) (replicate-at {A = ℕ} 64 (x - 1) 0) ∙ none-holds y;
+      solids-hold = λ x y l k. ap (λ (s : ℕ). holds s y) (replicate-at {A = ℕ} 64 (x - 1) 0) ∙ none-holds y;
     }
 
 -- counting one more
@@ -95,7 +96,7 @@ or-twice a c f false true = or-false ((a || c) || f) ∙ or-swap a c f ∙ ap (�
 or-twice a c f false false = or-false ((a || c) || f) ∙ or-swap a c f ∙ ap (λ (b : Bool). (a || f) || b) (sym (or-false c))
 
 -- one more row
-module _ (i : ℕ) (ts hs : List ℕ) (fs : List Bool) (once firm : List ℕ) (so-far : Firming i ts hs fs once firm)
+module _ (i : ℕ) (ts hs : List ℕ) (fs : List Bool) (once solids : List ℕ) (so-far : Solid-rows i ts hs fs once solids)
     (tail-low : 1 ≤ getD ts i 0) (tail-high : getD ts i 0 ≤ 64) (head-low : 1 ≤ getD hs i 0) (head-high : getD hs i 0 ≤ 64) where
   abbrev tail : ℕ
   tail = getD ts i 0
@@ -105,27 +106,27 @@ module _ (i : ℕ) (ts hs : List ℕ) (fs : List Bool) (once firm : List ℕ) (s
 
   -- the row forward
   abbrev firmed : List ℕ
-  firmed = set firm (tail - 1) (bitOr (getD firm (tail - 1) 0) (mask head))
+  firmed = set solids (tail - 1) (bitOr (getD solids (tail - 1) 0) (mask head))
 
   firmed-size : length firmed ≡ 64
-  firmed-size = length-set firm (tail - 1) (bitOr (getD firm (tail - 1) 0) (mask head)) ∙ so-far .firm-size
+  firmed-size = length-set solids (tail - 1) (bitOr (getD solids (tail - 1) 0) (mask head)) ∙ so-far .solids-size
 
   abbrev backs : (x y : ℕ) → ℕ
   backs x y = count-below i (back ts hs fs x y)
 
   firmed-holds : (x y : ℕ) → 1 ≤ x → 1 ≤ y → holds (at firmed x) y ≡ ((any-below i (ahead ts hs x y) || leb 2 (backs x y)) || ahead ts hs x y i)
   firmed-holds x y l k =
-      grown-holds firm tail (mask head) (so-far .firm-size) tail-low tail-high x y l
-      ∙ ap₂ (λ (a b : Bool). a || (eqb tail x && b)) (so-far .firm-holds x y l k) (mask-holds head y head-low head-high k)
+      grown-holds solids tail (mask head) (so-far .solids-size) tail-low tail-high x y l
+      ∙ ap₂ (λ (a b : Bool). a || (eqb tail x && b)) (so-far .solids-hold x y l k) (mask-holds head y head-low head-high k)
 
-  pub firm-ahead : getD fs i false ≡ false → Firming (i + 1) ts hs fs once firmed
+  pub solid-ahead : getD fs i false ≡ false → Solid-rows (i + 1) ts hs fs once firmed
   unfolding any-below count-below sum-below
-  firm-ahead f =
+  solid-ahead f =
       record {
         once-size = so-far .once-size;
-        firm-size = firmed-size;
+        solids-size = firmed-size;
         once-holds = λ x y l k. so-far .once-holds x y l k ∙ sym (rw (add-one i, f) (first-more (backs x y) false ∙ or-false (leb 1 (backs x y))));
-        firm-holds = λ x y l k.
+        solids-hold = λ x y l k.
             firmed-holds x y l k ∙ or-swap (any-below i (ahead ts hs x y)) (leb 2 (backs x y)) (ahead ts hs x y i)
             ∙ sym (rw (add-one i, f) (ap (λ (b : Bool). (any-below i (ahead ts hs x y) || ahead ts hs x y i) || b) (second-more (backs x y) false ∙ or-false (leb 2 (backs x y)))));
       }
@@ -143,20 +144,20 @@ module _ (i : ℕ) (ts hs : List ℕ) (fs : List Bool) (once firm : List ℕ) (s
       ∙ ap₂ _&&_ (so-far .once-holds head y head-low k ∙ ap (λ (z : ℕ). leb 1 (backs z y)) (eqb-true head x e)) (mask-holds tail y tail-low tail-high k)))
       (λ e. rw e (sym (and-false (leb 1 (backs x y)))))
 
-  pub firm-both :
+  pub solid-both :
       getD fs i false ≡ true →
-      Firming (i + 1) ts hs fs (set once (head - 1) (bitOr (getD once (head - 1) 0) (mask tail)))
+      Solid-rows (i + 1) ts hs fs (set once (head - 1) (bitOr (getD once (head - 1) 0) (mask tail)))
       (set firmed (head - 1) (bitOr (getD firmed (head - 1) 0) again))
   unfolding any-below count-below sum-below
-  firm-both f =
+  solid-both f =
       record {
         once-size = length-set once (head - 1) (bitOr (getD once (head - 1) 0) (mask tail)) ∙ so-far .once-size;
-        firm-size = length-set firmed (head - 1) (bitOr (getD firmed (head - 1) 0) again) ∙ firmed-size;
+        solids-size = length-set firmed (head - 1) (bitOr (getD firmed (head - 1) 0) again) ∙ firmed-size;
         once-holds = λ x y l k.
             grown-holds once head (mask tail) (so-far .once-size) head-low head-high x y l
             ∙ ap₂ (λ (a b : Bool). a || (eqb head x && b)) (so-far .once-holds x y l k) (mask-holds tail y tail-low tail-high k)
             ∙ sym (rw (add-one i, f) (first-more (backs x y) (eqb head x && eqb tail y)));
-        firm-holds = λ x y l k.
+        solids-hold = λ x y l k.
             let a = any-below i (ahead ts hs x y) in
             let both = eqb head x && eqb tail y in
             grown-holds firmed head again firmed-size head-low head-high x y l
@@ -166,12 +167,12 @@ module _ (i : ℕ) (ts hs : List ℕ) (fs : List Bool) (once firm : List ℕ) (s
       }
 
 -- all rows
-pub firm-solid :
-    (n m : ℕ) (ts hs : List ℕ) (fs : List Bool) (once firm : List ℕ) → Firming m ts hs fs once firm → (h : Hall) → Columns h n m ts hs →
-    Firm h (flagged fs) firm
-unfolding Firm solid
-firm-solid n m ts hs fs once firm full h cols x y l lx k ky =
-    full .firm-holds x y l k
+pub rows-solid :
+    (n m : ℕ) (ts hs : List ℕ) (fs : List Bool) (once solids : List ℕ) → Solid-rows m ts hs fs once solids → (h : Hall) → Columns h n m ts hs →
+    Solid-arcs h (flagged fs) solids
+unfolding Solid-arcs solid
+rows-solid n m ts hs fs once solids full h cols x y l lx k ky =
+    full .solids-hold x y l k
     ∙ rw (cols .rows) (ap₂ (λ (b : Bool) (c : ℕ). b || leb 2 c) (any-ext m _ _ (λ j less. forth j less)) (count-ext m _ _ (λ j less. back-again j less)))
   where
     forth : (j : ℕ) → j < m → ahead ts hs x y j ≡ forward h x y j
