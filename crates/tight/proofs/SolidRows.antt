@@ -105,29 +105,29 @@ module _ (i : ℕ) (ts hs : List ℕ) (fs : List Bool) (once solids : List ℕ) 
   head = getD hs i 0
 
   -- the row forward
-  abbrev firmed : List ℕ
-  firmed = set solids (tail - 1) (bitOr (getD solids (tail - 1) 0) (mask head))
+  abbrev with-ahead : List ℕ
+  with-ahead = set solids (tail - 1) (bitOr (getD solids (tail - 1) 0) (mask head))
 
-  firmed-size : length firmed ≡ 64
-  firmed-size = length-set solids (tail - 1) (bitOr (getD solids (tail - 1) 0) (mask head)) ∙ so-far .solids-size
+  with-ahead-size : length with-ahead ≡ 64
+  with-ahead-size = length-set solids (tail - 1) (bitOr (getD solids (tail - 1) 0) (mask head)) ∙ so-far .solids-size
 
   abbrev backs : (x y : ℕ) → ℕ
   backs x y = count-below i (back ts hs fs x y)
 
-  firmed-holds : (x y : ℕ) → 1 ≤ x → 1 ≤ y → holds (at firmed x) y ≡ ((any-below i (ahead ts hs x y) || leb 2 (backs x y)) || ahead ts hs x y i)
-  firmed-holds x y l k =
+  with-ahead-holds : (x y : ℕ) → 1 ≤ x → 1 ≤ y → holds (at with-ahead x) y ≡ ((any-below i (ahead ts hs x y) || leb 2 (backs x y)) || ahead ts hs x y i)
+  with-ahead-holds x y l k =
       grown-holds solids tail (mask head) (so-far .solids-size) tail-low tail-high x y l
       ∙ ap₂ (λ (a b : Bool). a || (eqb tail x && b)) (so-far .solids-hold x y l k) (mask-holds head y head-low head-high k)
 
-  pub solid-ahead : getD fs i false ≡ false → Solid-rows (i + 1) ts hs fs once firmed
+  pub solid-ahead : getD fs i false ≡ false → Solid-rows (i + 1) ts hs fs once with-ahead
   unfolding any-below count-below sum-below
   solid-ahead f =
       record {
         once-size = so-far .once-size;
-        solids-size = firmed-size;
+        solids-size = with-ahead-size;
         once-holds = λ x y l k. so-far .once-holds x y l k ∙ sym (rw (add-one i, f) (first-more (backs x y) false ∙ or-false (leb 1 (backs x y))));
         solids-hold = λ x y l k.
-            firmed-holds x y l k ∙ or-swap (any-below i (ahead ts hs x y)) (leb 2 (backs x y)) (ahead ts hs x y i)
+            with-ahead-holds x y l k ∙ or-swap (any-below i (ahead ts hs x y)) (leb 2 (backs x y)) (ahead ts hs x y i)
             ∙ sym (rw (add-one i, f) (ap (λ (b : Bool). (any-below i (ahead ts hs x y) || ahead ts hs x y i) || b) (second-more (backs x y) false ∙ or-false (leb 2 (backs x y)))));
       }
 
@@ -147,12 +147,12 @@ module _ (i : ℕ) (ts hs : List ℕ) (fs : List Bool) (once solids : List ℕ) 
   pub solid-both :
       getD fs i false ≡ true →
       Solid-rows (i + 1) ts hs fs (set once (head - 1) (bitOr (getD once (head - 1) 0) (mask tail)))
-      (set firmed (head - 1) (bitOr (getD firmed (head - 1) 0) again))
+      (set with-ahead (head - 1) (bitOr (getD with-ahead (head - 1) 0) again))
   unfolding any-below count-below sum-below
   solid-both f =
       record {
         once-size = length-set once (head - 1) (bitOr (getD once (head - 1) 0) (mask tail)) ∙ so-far .once-size;
-        solids-size = length-set firmed (head - 1) (bitOr (getD firmed (head - 1) 0) again) ∙ firmed-size;
+        solids-size = length-set with-ahead (head - 1) (bitOr (getD with-ahead (head - 1) 0) again) ∙ with-ahead-size;
         once-holds = λ x y l k.
             grown-holds once head (mask tail) (so-far .once-size) head-low head-high x y l
             ∙ ap₂ (λ (a b : Bool). a || (eqb head x && b)) (so-far .once-holds x y l k) (mask-holds tail y tail-low tail-high k)
@@ -160,8 +160,8 @@ module _ (i : ℕ) (ts hs : List ℕ) (fs : List Bool) (once solids : List ℕ) 
         solids-hold = λ x y l k.
             let a = any-below i (ahead ts hs x y) in
             let both = eqb head x && eqb tail y in
-            grown-holds firmed head again firmed-size head-low head-high x y l
-            ∙ ap₂ _||_ (firmed-holds x y l k) (again-holds x y k)
+            grown-holds with-ahead head again with-ahead-size head-low head-high x y l
+            ∙ ap₂ _||_ (with-ahead-holds x y l k) (again-holds x y k)
             ∙ or-twice a (leb 2 (backs x y)) (ahead ts hs x y i) both (leb 1 (backs x y))
             ∙ sym (rw (add-one i, f) (ap (λ (b : Bool). (a || ahead ts hs x y i) || b) (second-more (backs x y) both)));
       }
