@@ -33,9 +33,12 @@ module _ (c : tie.After-is-none) where
   abbrev opened : Opened
   opened = at-opening .open-choice .result
 
--- where there is no refusal, and where the shore has been looked for
+-- the places: where there is no refusal, and where the shore is looked for
+abbrev at-hall : tie.After-chosen2 → tie.After-hall2
+at-hall c = c .before .before .before
+
 abbrev no-refusal : tie.After-chosen2 → tie.Else1
-no-refusal c = c .before .before .before .before .before .before
+no-refusal c = at-hall c .before .before .before
 
 module _ (c : tie.Else1) where
   abbrev tested : tie.After-is-none

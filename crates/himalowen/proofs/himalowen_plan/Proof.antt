@@ -4,9 +4,12 @@ use borrow.Author.Needs.{needs}
 use Rattle.himalowen.proofs.himalowen_plan.Statement.{statement}
 use Rattle.himalowen.proofs.himalowen_plan.Tie as tie
 
--- the core has planned, and the lent lists are back
+-- the places: the lent lists come back, the rows and shores first, once the core has planned
+abbrev at-shores : tie.After-planned-places → tie.After-shores
+at-shores c = c .before .before .before .before .before
+
 abbrev at-core : tie.After-planned-places → tie.After-plan-core
-at-core c = c .before .before .before .before .before .before .before .before
+at-core c = at-shores c .before .before .before
 
 plan-core-requires : tie.Need-plan-core-requires
 plan-core-requires c κs = search needs

@@ -66,8 +66,11 @@ module _ (c : tie.Else2) where
 abbrev at-fine : tie.After-plan-hall-arg4 → tie.Else2
 at-fine c = c .before .before .before .before .before
 
+abbrev at-shores : tie.After-levels → tie.After-shores
+at-shores c = c .before .before .before .before
+
 abbrev at-plan : tie.After-levels → tie.After-plan-hall
-at-plan c = c .before .before .before .before .before .before .before
+at-plan c = at-shores c .before .before .before
 
 lists-short-requires : tie.Need-lists-short-requires
 lists-short-requires c κs = search needs
