@@ -11,7 +11,7 @@ use Rattle.refusals.specs.declared.Kind.{Kind}
 use Rattle.refusals.specs.declared.Kind.the-variants.{None}
 use Rattle.refusals.specs.Kinds.{refusal-of}
 use Rattle.answers.specs.Answers.{refused, missing}
-use Rattle.opening.specs.Opening.{choice-refusal}
+use Rattle.opening.specs.Choice.{choice-refusal}
 use Rattle.checking.specs.Check.{Check-says}
 use Rattle.answers.proofs.Answers.{refused-found, found-missing}
 

@@ -3,7 +3,7 @@ use mathlib.Core.List.{List}
 use Prim.Native.Nat.{ℕ}
 use Rattle.hall.specs.Hall.{missed}
 use Rattle.hall.specs.File.{hall-in}
-use Rattle.opening.specs.Opening.{choice-refusal}
+use Rattle.opening.specs.Choice.{choice-refusal}
 use Rattle.answers.specs.declared.Told.{Told}
 use Rattle.answers.specs.Answers.{Found}
 

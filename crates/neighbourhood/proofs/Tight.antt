@@ -18,7 +18,7 @@ use Rattle.refusals.specs.declared.Kind.the-variants.{None}
 use Rattle.refusals.specs.Kinds.{refusal-of}
 use Rattle.choice.specs.Short.{if-some}
 use Rattle.answers.specs.Answers.{outcome-of, set-of, refused, missing, surrounded, told}
-use Rattle.opening.specs.Opening.{choice-refusal}
+use Rattle.opening.specs.Choice.{choice-refusal}
 use Rattle.neighbourhood.specs.Tight.{Around, Tight-for, Tight-says}
 use Rattle.answers.proofs.Answers.{refused-told}
 

@@ -6,7 +6,7 @@ use Prim.Native.Nat.{ℕ}
 use lib.Dec.{eqb, ltb}
 use Rattle.hall.specs.Hall.{missed, tight-around}
 use Rattle.hall.specs.File.{hall-in, Refusal}
-use Rattle.opening.specs.Opening.{choice-refusal}
+use Rattle.opening.specs.Choice.{choice-refusal}
 use Rattle.answers.specs.declared.Told.{Told}
 use Rattle.answers.specs.Answers.{told}
 

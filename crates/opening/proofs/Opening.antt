@@ -14,7 +14,8 @@ use Rattle.columns.specs.Columns.{Ends, Columns, flagged}
 use Rattle.refusals.specs.Kinds.{refusal-of}
 use Rattle.refusals.proofs.Numbers.{is-refused, is-fine}
 use Rattle.opening.specs.declared.Opened.{Opened}
-use Rattle.opening.specs.Opening.{choice-refusal, Opening}
+use Rattle.opening.specs.Choice.{choice-refusal}
+use Rattle.opening.specs.Opening.{Opening}
 use Rattle.hallfile.proofs.Accepted as accepted
 
 -- which refusal comes

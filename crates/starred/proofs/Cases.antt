@@ -15,7 +15,7 @@ use Rattle.hall.specs.Plan.{total, earlier, goes-before, Cut, cut, crosses-from
 use Rattle.joining.specs.Promise.{all-bytes, accepted}
 use Rattle.starred.specs.Layout.{bytes-of, rows-bytes, blocks-bytes, file-of}
 use Rattle.starred.specs.Trying.{every-ascending, not-after, is-first, is-beside, same-row, same-hall, same-refusal, same-signed, is-some}
-use Rattle.starred.specs.Cases.{Expected, refused, opens, ties, misses, Case, Accepted, Planned-as, Ties, Misses, Answers, Says, accepted-tests, opens-tests, ties-tests, misses-tests, answered, case-tests, holds-of, drawn, junctions-of, printed-hall, printed-file, printed, square, starred}
+use Rattle.starred.specs.Cases.{Starred-hold, Expected, refused, opens, ties, misses, Case, Accepted, Planned-as, Ties, Misses, Answers, Says, accepted-tests, opens-tests, ties-tests, misses-tests, answered, case-tests, holds-of, drawn, junctions-of, printed-hall, printed-file, printed, square, starred}
 use Rattle.starred.proofs.Same.{hall-same, refusal-same, levels-same, some-same}
 use Rattle.starred.proofs.Trying.{first-by-trying, beside-by-test}
 
@@ -94,6 +94,6 @@ unfolding all-in all-of same-list holds with-junction
     accepted-tests opens-tests ties-tests misses-tests answered case-tests holds-of drawn junctions-of printed-hall printed-file printed square starred
 starred-pass = refl
 
--- THE STARRED HALLS HOLD
-pub starred-hold : Each Says starred
+pub starred-hold : Starred-hold
+unfolding Starred-hold
 starred-hold = cases-by-test starred starred-pass

@@ -6,7 +6,7 @@ use mathlib.Core.Option.{some}
 use Prim.Native.Nat.{ℕ}
 use lib.Dec.{eqb}
 use lib.IntN.{ℤ, pos, negsuc}
-use Rattle.laws.specs.Lists.{all-of, same-list}
+use Rattle.laws.specs.Lists.{all-of, Each, same-list}
 use Rattle.junctions.specs.Sets.{with-junction}
 use Rattle.hall.specs.Hall.{Hall, hall, row-of, is-choice, joins, missed}
 use Rattle.hall.specs.File.{hall-in, hall-refusal, refusal}
@@ -147,3 +147,7 @@ starred =
     ∷ drawn (hall 4 (row-of 1 2 1 ∷ row-of 2 3 1 ∷ row-of 3 4 1 ∷ [])) (misses (1 ∷ 3 ∷ []) (junctions-of (3 ∷ 4 ∷ [])))
     ∷ drawn (hall 2 (row-of 3 3 0 ∷ [])) (refused 6 1)
     ∷ []
+
+-- THE STARRED HALLS HOLD: each says what is expected of it
+unfoldable pub Starred-hold : Type 0
+Starred-hold = Each Says starred

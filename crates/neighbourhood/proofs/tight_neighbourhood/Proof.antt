@@ -17,7 +17,7 @@ use Rattle.choice.specs.Short.{if-some}
 use Rattle.answers.specs.declared.Told.{Told}
 use Rattle.opening.specs.declared.Opened.{Opened}
 use Rattle.answers.specs.declared.Finding.{Finding}
-use Rattle.opening.specs.Opening.{choice-refusal}
+use Rattle.opening.specs.Choice.{choice-refusal}
 use Rattle.neighbourhood.specs.Tight.{Tight-says}
 use Rattle.answers.proofs.Answers.{some-missing}
 use Rattle.opening.proofs.Opening.{list-chosen}
