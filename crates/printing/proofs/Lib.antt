@@ -1,9 +1,4 @@
-pub mod Decimal
-pub mod Lines
+pub mod Each
 pub mod Parts
-pub mod Placed
 pub mod Recorded
 pub mod Samples
-pub mod Sets
-pub mod Signs
-pub mod Texts

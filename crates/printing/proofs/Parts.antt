@@ -11,8 +11,9 @@ use Rattle.hall.specs.File.{Refusal, refusal}
 use Rattle.hall.specs.Plan.{Cut}
 use Rattle.hallfile.specs.declared.HallRecord.{HallRecord}
 use Rattle.dicuts.proofs.Choices.{ascends-low, ascends-high, ascends-rest}
-use Rattle.printing.specs.Placed.{text}
-use Rattle.printing.specs.Printed.{hall-word, open-word, total-word, cuts-word, levels-word, refused-word, newline, one, each, number-line, pair-line, row-line, cut-line, level-item, choice-lines, cut-lines, levels-line, printed-plan, printed-refusal}
+use Rattle.lines.specs.Placed.{text}
+use Rattle.lines.specs.Lines.{newline, one, number-line, pair-line, cut-line, level-item}
+use Rattle.printing.specs.Printed.{hall-word, open-word, total-word, cuts-word, levels-word, refused-word, each, row-line, choice-lines, cut-lines, levels-line, printed-plan, printed-refusal}
 use Rattle.printing.specs.Recorded.{hall-of, paired}
 use Rattle.printing.proofs.Recorded.{hall-count, hall-junctions, cuts-length}
 

@@ -13,7 +13,8 @@ use Rattle.columns.specs.Columns.{Columns}
 use Rattle.hallfile.specs.Record.{record-of}
 use Rattle.hallfile.proofs.Records.{record-columns, record-prices}
 use Rattle.choice.proofs.Ascent.{ascends-at}
-use Rattle.printing.specs.Printed.{four-line, row-line}
+use Rattle.lines.specs.Lines.{four-line}
+use Rattle.printing.specs.Printed.{row-line}
 use Rattle.printing.specs.Recorded.{rows-from, hall-of, paired}
 
 rows-length : (t h p : List ℕ) (i k : ℕ) → length (rows-from t h p i k) ≡ k

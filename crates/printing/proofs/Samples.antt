@@ -7,8 +7,9 @@ use Rattle.hall.specs.Hall.{hall, row-of, row, count}
 use Rattle.hall.specs.File.{value, field, blocks, offset, long-of, rows-at, all-rows, hall-in}
 use Rattle.hall.specs.Plan.{Cut, total, level-sum, difference, levels-from, levels}
 use Rattle.junctions.specs.Sets.{holds}
-use Rattle.printing.specs.Placed.{text}
-use Rattle.printing.specs.Printed.{hall-word, open-word, total-word, cuts-word, levels-word, refused-word, digits, decimal, level-text, item, each, number-line, pair-line, four-line, row-line, set-text, cut-line, level-item, levels-line, choice-lines, cut-lines, printed-plan, printed-refusal}
+use Rattle.lines.specs.Placed.{text}
+use Rattle.lines.specs.Lines.{digits, decimal, level-text, item, number-line, pair-line, four-line, set-text, cut-line, level-item}
+use Rattle.printing.specs.Printed.{hall-word, open-word, total-word, cuts-word, levels-word, refused-word, each, row-line, levels-line, choice-lines, cut-lines, printed-plan, printed-refusal}
 
 -- the 36-byte file of document 01
 abbrev file : List ℕ

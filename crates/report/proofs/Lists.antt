@@ -19,8 +19,8 @@ use Rattle.hallfile.specs.Record.{record-of}
 use Rattle.planning.specs.declared.Planned.{Planned}
 use Rattle.planning.specs.Plan.{plan-refusal, shores, weights, in-front, Filled, Turned, Plan-as, Plan-says}
 use Rattle.planning.proofs.Lent.{shores-length, weights-length}
+use Rattle.lines.specs.Placed.{In-front}
 use Rattle.printing.specs.Printed.{printed-plan, printed-refusal}
-use Rattle.printing.specs.Placed.{In-front}
 use Rattle.printing.specs.Recorded.{hall-of, paired, Printable}
 use Rattle.printing.proofs.Recorded.{hall-of-record}
 use Rattle.report.specs.Report.{Report-as, Report-says}

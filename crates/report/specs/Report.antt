@@ -4,8 +4,8 @@ use Prim.Native.Nat.{ℕ, zero, suc}
 use Rattle.hall.specs.Hall.{Hall}
 use Rattle.hall.specs.File.{Refusal, hall-in, hall-refusal}
 use Rattle.hall.specs.Plan.{First, Beside, Cut, total, levels}
+use Rattle.lines.specs.Placed.{In-front}
 use Rattle.printing.specs.Printed.{printed-plan, printed-refusal}
-use Rattle.printing.specs.Placed.{In-front}
 
 -- a refusal's line, or the list of the first joining choice with cuts beside it
 unfoldable pub Report-as : (number : ℕ) → Refusal → Hall → (before after : List ℕ) → (size : ℕ) → Type 0

@@ -7,11 +7,12 @@ use lib.ListN.{length, drop}
 use borrow.Author.Needs.{needs}
 use Rattle.hallfile.specs.declared.HallRecord.{HallRecord}
 use Rattle.hall.specs.Plan.{Cut}
-use Rattle.printing.specs.Placed.{Halfway}
-use Rattle.printing.specs.Printed.{number-line, pair-line, choice-lines, cut-lines, levels-line, printed-plan}
+use Rattle.lines.specs.Placed.{Halfway}
+use Rattle.lines.specs.Lines.{number-line, pair-line}
+use Rattle.printing.specs.Printed.{choice-lines, cut-lines, levels-line, printed-plan}
 use Rattle.printing.specs.Recorded.{hall-of, paired}
-use Rattle.printing.proofs.Placed.{begun, further, ended, in-front, ends-by}
-use Rattle.printing.proofs.Lines.{number-line-short, pair-line-short}
+use Rattle.lines.proofs.Placed.{begun, further, ended, in-front, ends-by}
+use Rattle.lines.proofs.Lines.{number-line-short, pair-line-short}
 use Rattle.printing.proofs.Parts.{choice-few, plan-parts}
 use Rattle.printing.proofs.print_plan.Statement.{statement}
 use Rattle.printing.proofs.print_plan.Tie as tie

@@ -2,8 +2,8 @@
 use mathlib.Core.List.{[], _∷_}
 use native.Mathlib.Omega.{arith}
 use borrow.Author.Needs.{needs}
-use Rattle.printing.proofs.Placed.{in-front}
-use Rattle.printing.proofs.Lines.{pair-line-short}
+use Rattle.lines.proofs.Placed.{in-front}
+use Rattle.lines.proofs.Lines.{pair-line-short}
 use Rattle.printing.proofs.Parts.{refusal-line}
 use Rattle.printing.proofs.print_refusal.Statement.{statement}
 use Rattle.printing.proofs.print_refusal.Tie as tie

@@ -5,11 +5,12 @@ use Prim.Native.Nat.{ℕ, _+_, _≤_}
 use native.Mathlib.Omega.{arith}
 use lib.ListN.{length}
 use borrow.Author.Needs.{needs}
-use Rattle.printing.specs.Placed.{Halfway}
-use Rattle.printing.specs.Printed.{each, number-line, row-line, choice-lines}
+use Rattle.lines.specs.Placed.{Halfway}
+use Rattle.lines.specs.Lines.{number-line}
+use Rattle.printing.specs.Printed.{each, row-line, choice-lines}
 use Rattle.printing.specs.Recorded.{hall-of}
-use Rattle.printing.proofs.Placed.{begun, further, ended, ends-by}
-use Rattle.printing.proofs.Lines.{number-line-short}
+use Rattle.lines.proofs.Placed.{begun, further, ended, ends-by}
+use Rattle.lines.proofs.Lines.{number-line-short}
 use Rattle.printing.proofs.Parts.{choice-parts}
 use Rattle.printing.proofs.put_choice.Statement.{statement}
 use Rattle.printing.proofs.put_choice.Tie as tie

@@ -6,11 +6,12 @@ use native.Mathlib.Omega.{arith}
 use lib.ListN.{length}
 use borrow.Author.Needs.{needs}
 use Rattle.hall.specs.Plan.{Cut}
-use Rattle.printing.specs.Placed.{Halfway}
-use Rattle.printing.specs.Printed.{each, number-line, cut-line, cut-lines}
+use Rattle.lines.specs.Placed.{Halfway}
+use Rattle.lines.specs.Lines.{number-line, cut-line}
+use Rattle.printing.specs.Printed.{each, cut-lines}
 use Rattle.printing.specs.Recorded.{paired}
-use Rattle.printing.proofs.Placed.{begun, further, ended, ends-by}
-use Rattle.printing.proofs.Lines.{number-line-short}
+use Rattle.lines.proofs.Placed.{begun, further, ended, ends-by}
+use Rattle.lines.proofs.Lines.{number-line-short}
 use Rattle.printing.proofs.Parts.{cut-parts}
 use Rattle.printing.proofs.put_cut_list.Statement.{statement}
 use Rattle.printing.proofs.put_cut_list.Tie as tie

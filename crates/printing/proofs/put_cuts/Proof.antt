@@ -6,10 +6,10 @@ use native.Mathlib.Omega.{arith}
 use lib.ListN.{length, getD}
 use borrow.Author.Needs.{needs}
 use Rattle.hall.specs.Plan.{cut}
-use Rattle.printing.specs.Printed.{cut-line}
+use Rattle.lines.specs.Lines.{cut-line}
 use Rattle.printing.specs.Recorded.{paired}
 use Rattle.printing.proofs.Recorded.{cuts-length, cuts-at}
-use Rattle.printing.proofs.Texts.{Each-put, each-none, each-next, each-all}
+use Rattle.printing.proofs.Each.{Each-put, each-none, each-next, each-all}
 use Rattle.printing.proofs.put_cuts.Statement.{statement}
 use Rattle.printing.proofs.put_cuts.Tie as tie
 

@@ -4,9 +4,9 @@ use native.Mathlib.Omega.{arith}
 use lib.IntN.{pos}
 use lib.ListN.{length}
 use borrow.Author.Needs.{needs}
-use Rattle.printing.specs.Printed.{level-item}
-use Rattle.printing.proofs.Signs.{same-item}
-use Rattle.printing.proofs.Texts.{Each-put, each-none, each-next, each-all}
+use Rattle.lines.specs.Lines.{level-item}
+use Rattle.lines.proofs.Signs.{same-item}
+use Rattle.printing.proofs.Each.{Each-put, each-none, each-next, each-all}
 use Rattle.printing.proofs.put_levels.Statement.{statement}
 use Rattle.printing.proofs.put_levels.Tie as tie
 

@@ -5,9 +5,10 @@ use Prim.Native.Nat.{ℕ, _≤_}
 use native.Mathlib.Omega.{arith}
 use lib.ListN.{length, drop}
 use borrow.Author.Needs.{needs}
-use Rattle.printing.specs.Placed.{Halfway}
-use Rattle.printing.specs.Printed.{newline, each, one, level-item, levels-line}
-use Rattle.printing.proofs.Placed.{begun, further, ended}
+use Rattle.lines.specs.Placed.{Halfway}
+use Rattle.lines.specs.Lines.{newline, one, level-item}
+use Rattle.printing.specs.Printed.{each, levels-line}
+use Rattle.lines.proofs.Placed.{begun, further, ended}
 use Rattle.printing.proofs.Parts.{level-parts}
 use Rattle.printing.proofs.put_levels_line.Statement.{statement}
 use Rattle.printing.proofs.put_levels_line.Tie as tie

@@ -7,7 +7,7 @@ use Rattle.hallfile.specs.declared.HallRecord.{HallRecord}
 use Rattle.printing.specs.Printed.{row-line}
 use Rattle.printing.specs.Recorded.{hall-of}
 use Rattle.printing.proofs.Recorded.{row-line-is, choice-at}
-use Rattle.printing.proofs.Texts.{Each-put, each-none, each-next, each-all}
+use Rattle.printing.proofs.Each.{Each-put, each-none, each-next, each-all}
 use Rattle.printing.proofs.put_rows.Statement.{statement}
 use Rattle.printing.proofs.put_rows.Tie as tie
 
