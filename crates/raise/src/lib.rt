@@ -154,16 +154,6 @@ pub fn raise_for<'a>(
     let head = place(heads[row]);
     let high = potential[tail] + costs[row];
     let gap = narrow(high, true, high, potential[head]);
-    let room = raise_room(
-        m,
-        tails,
-        heads,
-        costs,
-        movable,
-        potential,
-        around,
-        set,
-        gap,
-    );
+    let room = raise_room(m, tails, heads, costs, movable, potential, around, set, gap);
     raise(potential, set, room)
 }

@@ -171,15 +171,7 @@ pub fn repair<'a>(
         potential,
         around,
     };
-    let mut row = unpaid(
-        m,
-        tails,
-        heads,
-        costs,
-        &state.chosen,
-        &state.potential,
-        0,
-    );
+    let mut row = unpaid(m, tails, heads, costs, &state.chosen, &state.potential, 0);
     while row < m {
         let next = repair_step(
             n,
@@ -194,15 +186,7 @@ pub fn repair<'a>(
             row,
         );
         state = next;
-        row = next_unpaid(
-            m,
-            tails,
-            heads,
-            costs,
-            &state.chosen,
-            &state.potential,
-            row,
-        );
+        row = next_unpaid(m, tails, heads, costs, &state.chosen, &state.potential, row);
     }
     state
 }

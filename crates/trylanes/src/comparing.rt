@@ -2,9 +2,9 @@
 ghost use Prim.Native.Nat.{_≤_};
 use crate::lending;
 use cutlist::Cut;
-use refusals::Kind;
-use planning::Planned;
 use junctions::Junctions;
+use planning::Planned;
+use refusals::Kind;
 use tries::marks;
 use tries::plans;
 use tries::plans::Lists;

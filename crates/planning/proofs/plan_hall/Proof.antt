@@ -183,10 +183,11 @@ module _ (c : tie.After-total-of) where
 
   counts-few : (listed-rows .list-rows .result ≤ 256) × (filled .fill .result ≤ 125) × (hall (from-total (c .before .before)) .n ≤ 64)
   counts-few =
-      let s = from-cuts (filled .before) in
-      (omega (arith, listed-rows .list-rows .ensures .0, ends s .few),
-      filled .fill .ensures (h s) (flagged (at-least (filled .before) .cheapest .result .chosen)) (beside (filled .before) (h s) (is-ready s)) highest (levels-under (filled .before) (h s) (is-ready s)) .0 .few,
-      ends s .size)
+      let s = from-cuts (filled .before) in (
+        omega (arith, listed-rows .list-rows .ensures .0, ends s .few),
+        filled .fill .ensures (h s) (flagged (at-least (filled .before) .cheapest .result .chosen)) (beside (filled .before) (h s) (is-ready s)) highest (levels-under (filled .before) (h s) (is-ready s)) .0 .few,
+        ends s .size,
+      )
 
 cast-t52 : tie.Need-cast-t52
 cast-t52 c = omega (arith, counts-few c, ends (from-total (c .before .before)) .few)
