@@ -2,38 +2,47 @@
 use mathlib.Core.Path.{_≡_, refl, sym, ap, ap₂, subst, _∙_}
 use mathlib.Core.Bool.{Bool, _||_}
 use mathlib.Core.List.{List}
-use Prim.Native.Nat.{ℕ, _^_, _≤_, _<_}
+use Prim.Native.Nat.{ℕ, suc, _^_, _≤_, _<_}
 use native.Mathlib.Omega.{arith}
 use lib.IntN.{ℤ}
 use lib.ListN.{length}
 use Rattle.laws.specs.Lists.{at}
 use Rattle.laws.specs.Finite.{sum-below, one-if}
+use Rattle.laws.proofs.Finite.{sum-ext}
 use Rattle.junctions.specs.Sets.{holds}
 use Rattle.junctions.proofs.Gather.{gather-ext}
 use Rattle.hall.specs.Hall.{Hall}
 use Rattle.hall.specs.Plan.{Cut}
 use Rattle.dicuts.specs.Shores.{once, around}
 use Rattle.dicuts.proofs.Shores.{shore-lt}
-use Rattle.columns.specs.Columns.{Arcs, Neighbourhoods}
 use Rattle.certificates.specs.Pieces.{Mutual}
-use Rattle.certificates.specs.Cuts.{links, mates, over-shores, over-levels, weight, cuts}
+use Rattle.certificates.specs.Cuts.{upper, links, mates, over-shores, over-levels, weight, cuts}
+use Rattle.certificates.specs.Certificate.{Certificate}
 use Rattle.certificates.proofs.Components.{links-mutual}
 use Rattle.certificates.proofs.Certificate.{weight-tight, certificate}
 use Rattle.certificates.proofs.Classes.{mates-mutual}
-use Rattle.cuts.specs.Listed.{place-of, weight-in, Listed, Weight-room, Fits, Added, Filled-with, alone, nothing, cuts-in}
-use Rattle.cuts.specs.Shores.{components-weigh, classes-weigh, levels-weigh}
-use Rattle.cuts.specs.Thresholds.{mates-by, Under-top}
+use Rattle.columns.specs.Columns.{Arcs, Neighbourhoods}
+use Rattle.shorelist.specs.Listed.{place-of, weight-in, Listed, Weight-room, Fits, Added, alone, nothing}
+use Rattle.shorelist.proofs.Room.{few-places}
+use Rattle.levels.specs.Levels.{cuts-in, Near, Levelled}
+use Rattle.setshores.specs.Shores.{components-weigh, classes-weigh}
+use Rattle.setshores.proofs.Alike.{classes-alike, mutual-alike}
+use Rattle.cuts.specs.Filled.{Filled-with}
+use Rattle.cuts.specs.Thresholds.{levels-weigh, mates-by, Under-top}
 use Rattle.cuts.specs.Beside.{Beside-rows, highest}
-use Rattle.cuts.specs.Levels.{Near, Levelled}
-use Rattle.cuts.proofs.Alike.{levels-alike, mutual-alike}
 use Rattle.cuts.proofs.Certified.{weights-room}
-use Rattle.cuts.proofs.Levelling.{certificate-near}
 use Rattle.cuts.proofs.Listing.{listed-listing}
-use Rattle.cuts.proofs.Room.{few-places}
 
 pub levels-weight : (h : Hall) (x p : ℕ → ℕ) (top s : ℕ) → levels-weigh (h .n) (links h) (mates h x) p top s ≡ weight h x p top s
 unfolding levels-weigh classes-weigh components-weigh alone weight over-levels over-shores one-if
 levels-weight h x p top s = refl
+
+module _ (n : ℕ) (links mates links′ mates′ p : ℕ → ℕ) (same-links : (j : ℕ) → 1 ≤ j → j ≤ n → links j ≡ links′ j) (same-mates : (j : ℕ) → 1 ≤ j → j ≤ n → mates j ≡ mates′ j) where
+  levels-alike : (top s : ℕ) → levels-weigh n links mates p top s ≡ levels-weigh n links′ mates′ p top s
+  unfolding levels-weigh
+  levels-alike top s =
+      sum-ext top (λ q. classes-weigh n links mates (upper n p (suc q)) 1 s) (λ q. classes-weigh n links′ mates′ (upper n p (suc q)) 1 s)
+      (λ q l. classes-alike n links mates links′ mates′ same-links same-mates (upper n p (suc q)) 1 s)
 
 -- no place weighs anything
 empty-listed : (shores weights : ℕ → ℕ) → Listed 0 shores weights
@@ -109,6 +118,13 @@ module _ {h : Hall} {F : ℕ → Bool} {n : ℕ} {links-at around-at potential :
           shores-rest = a .shores-rest;
           weights-rest = a .weights-rest;
         }
+
+-- a certificate's levels differ as the potential does
+pub certificate-near : (h : Hall) (x p : ℕ → ℕ) (ks : List Cut) → 1 ≤ h .n → Certificate h x p ks → ((j : ℕ) → 1 ≤ j → j ≤ h .n → p j < 2 ^ 31) → Near (h .n) ks
+unfolding Near
+certificate-near h x p ks some c low j l m =
+    let e = c .levels j 1 l m (omega arith) some in
+    (omega (arith, e, low j l m), omega (arith, e, low 1 (omega arith) some))
 
 -- the levels of the cuts that the places are filled with
 module _ {h : Hall} {F : ℕ → Bool} {n : ℕ} {links-at around-at potential : List ℕ} (b : Beside-rows h F n links-at around-at potential) {shores weights : List ℕ} {count : ℕ} {now-shores now-weights : List ℕ} where

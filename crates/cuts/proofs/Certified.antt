@@ -20,7 +20,7 @@ use Rattle.certificates.specs.Cuts.{weight, cuts}
 use Rattle.certificates.proofs.Certificate.{weight-tight, cuts-weigh, certificate}
 use Rattle.certificates.proofs.Levels.{weights-spread}
 use Rattle.certificates.proofs.Listing.{load-weigh}
-use Rattle.cuts.specs.Listed.{Weight-room}
+use Rattle.shorelist.specs.Listed.{Weight-room}
 use Rattle.cuts.specs.Thresholds.{Under-top}
 use Rattle.cuts.proofs.Listing.{listing-length}
 

@@ -1,16 +1,6 @@
-pub mod Places
-pub mod Insertion
-pub mod Room
-pub mod Columns
-pub mod Add
 pub mod Gathering
 pub mod Nearer
-pub mod Rest
-pub mod Taking
-pub mod Components
 pub mod UpperSets
-pub mod Alike
 pub mod Listing
 pub mod Certified
 pub mod Beside
-pub mod Levelling

@@ -1,23 +1,23 @@
 -- Listed places that weigh as given weights do are the listing of these weights. Assumes nothing.
 use mathlib.Core.Path.{_≡_, refl, sym, ap, ap₂, _∙_}
-use mathlib.Core.Bool.{Bool, cond}
 use mathlib.Core.List.{List, _∷_}
 use mathlib.Core.Logic.{_⊎_, ⊎-elim}
 use Prim.Native.Nat.{ℕ, zero, suc, _+_, _≤_, _<_}
 use native.Mathlib.Omega.{arith}
 use lib.Dec.{eqb, ltb}
 use lib.ListN.{length}
-use borrow.Author.Tests.{eqb-true, eqb-false, eq-eqb, ne-eqb, ltb-true, ltb-false}
+use borrow.Author.Tests.{eqb-true, eqb-false, ltb-true, ltb-false}
 use Rattle.laws.specs.Finite.{sum-below, count-below, one-if}
-use Rattle.laws.proofs.Booleans.{by-bool, cond-false}
+use Rattle.laws.proofs.Booleans.{by-bool}
 use Rattle.laws.proofs.Connectives.{one-true, one-false}
 use Rattle.laws.proofs.Counts.{sum-head}
-use Rattle.laws.proofs.DoubleSums.{sum-found}
-use Rattle.laws.proofs.Finite.{sum-ext, sum-one}
+use Rattle.laws.proofs.Finite.{sum-ext}
 use Rattle.laws.proofs.Numbers.{compare-numbers}
 use Rattle.hall.specs.Plan.{Cut, cut}
 use Rattle.certificates.specs.Cuts.{listing}
-use Rattle.cuts.specs.Listed.{weight-in, Listed, cuts-in}
+use Rattle.shorelist.specs.Listed.{weight-in, Listed}
+use Rattle.shorelist.proofs.Found.{weight-there, place-found}
+use Rattle.levels.specs.Levels.{cuts-in}
 
 -- a listing has as many cuts as there are weights over 0
 pub listing-length : (w : ℕ → ℕ) (k s : ℕ) → length (listing k s w) ≡ count-below k (λ i. ltb 0 (w (s + i)))
@@ -33,34 +33,9 @@ listing-length w (suc k) s =
     (λ e. rw e (omega (arith, listing-length w k (suc s), sum-head k (λ i. f (s + i)), later, here, one-false (ltb 0 (w s)) e)))
 
 module _ (count : ℕ) (shores weights : ℕ → ℕ) (listed : Listed count shores weights) where
-  alone-there : (i k : ℕ) → i < count → k < count → eqb (shores i) (shores k) ≡ eqb k i
-  alone-there i k l m =
-      ⊎-elim (λ (e : k ≡ i). eq-eqb (shores i) (shores k) (ap shores (sym e)) ∙ sym (eq-eqb k i e))
-      (λ (o : (k < i) ⊎ (i < k)).
-      ⊎-elim
-      (λ (b : k < i). ne-eqb (shores i) (shores k) (λ e. omega (arith, listed .ascending k i b l)) ∙ sym (ne-eqb k i (λ e. omega arith)))
-      (λ (b : i < k). ne-eqb (shores i) (shores k) (λ e. omega (arith, listed .ascending i k b m)) ∙ sym (ne-eqb k i (λ e. omega arith))) o)
-      (compare-numbers k i)
-
-  -- the shore of a place weighs what stands beside it
-  pub weight-there : (i : ℕ) → i < count → weight-in count shores weights (shores i) ≡ weights i
-  unfolding weight-in
-  weight-there i l =
-      sum-ext count (λ k. cond (eqb (shores i) (shores k)) (weights k) 0) (λ k. cond (eqb k i) (weights k) 0) (λ k m. ap (λ (b : Bool). cond b (weights k) 0) (alone-there i k l m))
-      ∙ sum-one count weights i l
-
-  -- a shore that weighs something has a place
-  pub place-found : (s : ℕ) → 0 < weight-in count shores weights s → (i : ℕ) × (i < count) × (shores i ≡ s)
-  unfolding weight-in
-  place-found s h =
-      let w = sum-found count (λ k. cond (eqb s (shores k)) (weights k) 0) h in
-      by-bool (eqb s (shores (w .0)))
-      (λ e. (w .0, w .1, sym (eqb-true s (shores (w .0)) e)))
-      (λ e. absurd (omega (arith, w .2, cond-false (eqb s (shores (w .0))) (weights (w .0)) 0 e)))
-
   module _ (w : ℕ → ℕ) (bound : ℕ) (weighs : (s : ℕ) → weight-in count shores weights s ≡ w s) (low : (s : ℕ) → 0 < w s → s < bound) where
     some-there : (i : ℕ) → i < count → 0 < w (shores i)
-    some-there i l = omega (arith, weighs (shores i), weight-there i l, listed .some i l)
+    some-there i l = omega (arith, weighs (shores i), weight-there count shores weights listed i l, listed .some i l)
 
     -- the first place whose shore is not under t has shore t, if any place has
     first-there : (t i j : ℕ) → ((j : ℕ) → j < i → shores j < t) → ((j : ℕ) → i ≤ j → j < count → t ≤ shores j) → j < count → shores j ≡ t → shores i ≡ t
@@ -79,14 +54,14 @@ module _ (count : ℕ) (shores weights : ℕ → ℕ) (listed : Listed count sho
     rest-listed zero t (suc m) i b c before from = absurd (omega (arith, low (shores i) (some-there i (omega arith)), from i (omega arith) (omega arith)))
     rest-listed (suc k) t zero i b c before from =
         by-bool (ltb 0 (w t))
-        (λ e. let f = place-found t (omega (arith, weighs t, ltb-true 0 (w t) e)) in absurd (omega (arith, before (f .0) (omega (arith, f .1)), f .2)))
+        (λ e. let f = place-found count shores weights listed t (omega (arith, weighs t, ltb-true 0 (w t) e)) in absurd (omega (arith, before (f .0) (omega (arith, f .1)), f .2)))
         (λ e. rw e (rest-listed k (suc t) zero i (omega arith) c (λ j l. omega (arith, before j l)) (λ j l o. absurd (omega arith))))
     rest-listed (suc k) t (suc m) i b c before from =
         by-bool (ltb 0 (w t))
         (λ e.
-        let f = place-found t (omega (arith, weighs t, ltb-true 0 (w t) e)) in
+        let f = place-found count shores weights listed t (omega (arith, weighs t, ltb-true 0 (w t) e)) in
         let is : shores i ≡ t = first-there t i (f .0) before from (f .1) (f .2) in
-        let weight-is : weights i ≡ w t = sym (weight-there i (omega arith)) ∙ weighs (shores i) ∙ ap w is in
+        let weight-is : weights i ≡ w t = sym (weight-there count shores weights listed i (omega arith)) ∙ weighs (shores i) ∙ ap w is in
         let rest : cuts-in m (suc i) shores weights ≡ listing k (suc t) w =
         rest-listed k (suc t) m (suc i) (omega arith) (omega arith)
         (λ j l. by-bool (eqb j i) (λ q. omega (arith, ap shores (eqb-true j i q), is)) (λ q. let ne = eqb-false j i q in omega (arith, before j (omega arith))))

@@ -1,48 +1,24 @@
 -- Weights over the thresholds of a potential: equal ones at once, up to the next value, and none over the largest. Assumes nothing.
-use mathlib.Core.Path.{_≡_, refl, sym, ap, _∙_}
-use mathlib.Core.Bool.{Bool, true, false, cond}
+use mathlib.Core.Path.{_≡_, sym, ap, _∙_}
 use mathlib.Core.List.{List}
-use Prim.Native.Nat.{ℕ, zero, suc, _+_, _-_, _^_, _≤_, _<_}
+use Prim.Native.Nat.{ℕ, suc, _+_, _-_, _^_, _≤_, _<_}
 use native.Mathlib.Omega.{arith}
-use lib.Dec.{eqb, leb}
+use lib.Dec.{leb}
 use borrow.Author.Tests.{le-leb, lt-leb, leb-true}
 use Rattle.laws.specs.Finite.{sum-below}
-use Rattle.laws.proofs.Booleans.{by-bool, bool-ext, cond-zero}
+use Rattle.laws.proofs.Booleans.{by-bool, bool-ext}
 use Rattle.laws.proofs.Counts.{sum-split}
 use Rattle.laws.proofs.Finite.{sum-ext, sum-zero}
 use Rattle.junctions.proofs.Sets.{none-holds, sets-ext}
-use Rattle.certificates.specs.Pieces.{piece, over-pieces}
-use Rattle.certificates.specs.Cuts.{outside, upper}
-use Rattle.certificates.proofs.PieceSums.{over-ext, over-swap}
+use Rattle.certificates.specs.Pieces.{over-pieces}
+use Rattle.certificates.specs.Cuts.{upper}
 use Rattle.certificates.proofs.Classes.{upper-lt, upper-holds}
-use Rattle.cuts.specs.Listed.{place-of, Listed, Fits, Adding, Added, alone, nothing}
-use Rattle.cuts.specs.Shores.{components-weigh, classes-weigh, levels-weigh}
-use Rattle.cuts.specs.Thresholds.{Next-value, Under-top}
-use Rattle.cuts.proofs.Rest.{over-all, over-none}
-use Rattle.cuts.proofs.Room.{adding-none, adding-more, added-same}
-
--- a weight of k is k weights of 1
-cond-more : (b : Bool) (k : ℕ) → cond b (suc k) 0 ≡ cond b k 0 + cond b 1 0
-cond-more true k = omega arith
-cond-more false k = refl
-
-alone-times : (shore s k : ℕ) → alone shore k s ≡ sum-below k (λ i. alone shore 1 s)
-unfolding alone sum-below
-alone-times shore s zero = cond-zero (eqb s shore) 0 refl
-alone-times shore s (suc k) = omega (arith, cond-more (eqb s shore) k, alone-times shore s k)
-
-module _ (n : ℕ) (links mates : ℕ → ℕ) (k s : ℕ) where
-  components-times : (class : ℕ) → components-weigh n links class k s ≡ sum-below k (λ i. components-weigh n links class 1 s)
-  unfolding components-weigh
-  components-times class =
-      over-ext n links (outside n class) (λ c. alone (outside n c) k s) (λ c. sum-below k (λ i. alone (outside n c) 1 s)) (λ a l m e. alone-times (outside n (piece n links (outside n class) a)) s k)
-      ∙ over-swap n links (outside n class) k (λ i c. alone (outside n c) 1 s)
-
-  pub classes-times : (set : ℕ) → classes-weigh n links mates set k s ≡ sum-below k (λ i. classes-weigh n links mates set 1 s)
-  unfolding classes-weigh
-  classes-times set =
-      over-ext n mates set (λ class. components-weigh n links class k s) (λ class. sum-below k (λ i. components-weigh n links class 1 s)) (λ a l m e. components-times (piece n mates set a))
-      ∙ over-swap n mates set k (λ i class. components-weigh n links class 1 s)
+use Rattle.shorelist.specs.Listed.{place-of, Listed, Fits, Adding, Added, nothing}
+use Rattle.shorelist.proofs.Room.{adding-none, adding-more, added-same}
+use Rattle.setshores.specs.Shores.{components-weigh, classes-weigh}
+use Rattle.setshores.proofs.Times.{classes-times}
+use Rattle.setshores.proofs.Rest.{over-all, over-none}
+use Rattle.cuts.specs.Thresholds.{levels-weigh, Next-value, Under-top}
 
 module _ (n : ℕ) (p : ℕ → ℕ) where
   -- from one value up to the next the upper sets are the same

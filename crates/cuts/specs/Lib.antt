@@ -1,6 +1,3 @@
-pub mod Listed
-pub mod Columns
 pub mod Thresholds
-pub mod Shores
 pub mod Beside
-pub mod Levels
+pub mod Filled

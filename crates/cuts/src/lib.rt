@@ -1,8 +1,6 @@
-// The cuts that a joining choice and its potential give, with their weights, and the levels.
-pub mod levels;
-pub mod list;
+// The cuts that a joining choice and its potential give, with their weights, and the levels. They are listed by
+// `setshores`, threshold by threshold, and levelled by `levels`; `fill` gives exactly the `cuts` of `certificates`.
 pub mod sets;
-pub mod shores;
 pub mod thresholds;
 
 ghost use mathlib.Core.Bool.{Bool};
@@ -12,10 +10,10 @@ ghost use Rattle.laws.specs.Lists.{at};
 ghost use Rattle.hall.specs.Hall.{Hall};
 ghost use Rattle.dicuts.specs.Shores.{once};
 ghost use Rattle.certificates.specs.Cuts.{cuts};
+ghost use Rattle.levels.specs.Levels.{Levelled};
 ghost use Rattle.cuts.specs.Beside.{Beside-rows};
 ghost use Rattle.cuts.specs.Thresholds.{Under-top};
-ghost use Rattle.cuts.specs.Listed.{Filled-with};
-ghost use Rattle.cuts.specs.Levels.{Levelled};
+ghost use Rattle.cuts.specs.Filled.{Filled-with};
 
 // The cuts of the potential and the levels of the junctions. Returns how many cuts there are.
 pub fn fill<'a>(

@@ -1,4 +1,4 @@
-// Adjacencies and sets of junctions that the cuts are made from, and the values of a potential.
+// Sets of junctions that the cuts are made from, and the values of a potential.
 use junctions::Junctions;
 ghost use mathlib.Core.Path.{_≡_};
 ghost use mathlib.Core.Bool.{Bool};
@@ -6,22 +6,8 @@ ghost use Prim.Native.Nat.{ℕ, suc, _+_, _≤_, _<_};
 ghost use lib.ListN.{length};
 ghost use Rattle.laws.specs.Lists.{at};
 ghost use Rattle.junctions.specs.Sets.{holds, gather};
-ghost use Rattle.certificates.specs.Pieces.{inside};
 ghost use Rattle.certificates.specs.Cuts.{upper};
 ghost use Rattle.cuts.specs.Thresholds.{mates-by, Next-value};
-
-// The arcs that end in the set.
-pub fn within(adjacency: &[u64; 64], set: u64) -> [u64; 64]
-    ensures { λ r. ⌜ (length r ≡ 64) × ((j : ℕ) → 1 ≤ j → j ≤ 64 → at r j ≡ inside set (at (now (adjacency .entry))) j) ⌝ }
-{
-    let mut arcs = [0u64; 64];
-    let mut k: usize = 0;
-    while k < 64 {
-        arcs[k] = set & adjacency[k];
-        k += 1;
-    }
-    arcs
-}
 
 // The set of some of the first k junctions, with the next one too if it is to be in.
 pub fn extended(set: u64, k: usize, next: bool) -> u64

@@ -1,6 +1,6 @@
 // The cuts of a potential: the shores of its upper sets, equal ones at once.
 use crate::sets;
-use crate::shores::add_classes;
+use setshores::add_classes;
 ghost use mathlib.Core.Bool.{Bool};
 ghost use Prim.Native.Nat.{ℕ, _^_, _≤_, _<_};
 ghost use lib.ListN.{length};
@@ -9,10 +9,10 @@ ghost use Rattle.hall.specs.Hall.{Hall};
 ghost use Rattle.dicuts.specs.Shores.{once};
 ghost use Rattle.certificates.specs.Pieces.{Mutual};
 ghost use Rattle.certificates.specs.Cuts.{cuts};
+ghost use Rattle.shorelist.specs.Listed.{Fits, Added};
 ghost use Rattle.cuts.specs.Beside.{Beside-rows};
-ghost use Rattle.cuts.specs.Listed.{Fits, Added, Filled-with};
-ghost use Rattle.cuts.specs.Shores.{levels-weigh};
-ghost use Rattle.cuts.specs.Thresholds.{Under-top};
+ghost use Rattle.cuts.specs.Filled.{Filled-with};
+ghost use Rattle.cuts.specs.Thresholds.{levels-weigh, Under-top};
 
 // Adds the shores of every threshold, each with its weight. Returns how many places are filled.
 pub fn add_thresholds<'a, 'b>(

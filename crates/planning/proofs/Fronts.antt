@@ -11,9 +11,10 @@ use borrow.Author.Tests.{ltb-true, ltb-false}
 use Rattle.laws.proofs.Booleans.{by-bool}
 use Rattle.hall.specs.Hall.{Hall}
 use Rattle.hall.specs.Plan.{Cut, cut, levels}
-use Rattle.cuts.specs.Listed.{place-of, cuts-in, Filled-with}
-use Rattle.cuts.specs.Levels.{Levelled}
-use Rattle.cuts.proofs.Levelling.{levelled-levels}
+use Rattle.shorelist.specs.Listed.{place-of}
+use Rattle.levels.specs.Levels.{cuts-in, Levelled}
+use Rattle.levels.proofs.Levelling.{levelled-levels}
+use Rattle.cuts.specs.Filled.{Filled-with}
 use Rattle.planning.specs.Plan.{shores, weights, in-front}
 
 module _ {A : Type 0} (z : A) where

@@ -20,10 +20,10 @@ use Rattle.adjacency.proofs.Arcs.{arcs-ext}
 use Rattle.choicelists.specs.Listed.{listed}
 use Rattle.certificates.specs.Cuts.{cuts}
 use Rattle.certificates.proofs.First.{beside-first}
+use Rattle.levels.specs.Levels.{Levelled}
 use Rattle.cuts.specs.Beside.{highest, Beside-rows}
 use Rattle.cuts.specs.Thresholds.{Under-top}
-use Rattle.cuts.specs.Listed.{Filled-with}
-use Rattle.cuts.specs.Levels.{Levelled}
+use Rattle.cuts.specs.Filled.{Filled-with}
 use Rattle.hallfile.specs.declared.HallRecord.{HallRecord}
 use Rattle.refusals.specs.declared.Kind.{Kind}
 use Rattle.refusals.specs.declared.Kind.the-variants.{None, ListShort}

@@ -7,7 +7,7 @@ use native.Mathlib.Omega.{arith}
 use lib.ListN.{getD}
 use Rattle.laws.specs.Lists.{at}
 use Rattle.junctions.specs.Sets.{holds, gather}
-use Rattle.cuts.proofs.Columns.{place-next}
+use Rattle.setshores.proofs.Columns.{place-next}
 use Rattle.cuts.proofs.Gathering.{gather-bit}
 use borrow.Author.Needs.{needs}
 use Rattle.cuts.proofs.sets.holders.Statement.{statement}

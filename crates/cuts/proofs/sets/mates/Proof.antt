@@ -3,9 +3,9 @@ use mathlib.Core.Path.{_≡_, refl, ap, _∙_}
 use Prim.Native.Nat.{ℕ, _≤_, _-_, _+_}
 use native.Mathlib.Omega.{arith}
 use Rattle.laws.specs.Lists.{at}
-use Rattle.cuts.specs.Columns.{Filled-to}
+use Rattle.setshores.specs.Columns.{Filled-to}
+use Rattle.setshores.proofs.Columns.{filled-none, filled-more}
 use Rattle.cuts.specs.Thresholds.{mates-by}
-use Rattle.cuts.proofs.Columns.{filled-none, filled-more}
 use borrow.Author.Needs.{needs}
 use Rattle.cuts.proofs.sets.mates.Statement.{statement}
 use Rattle.cuts.proofs.sets.mates.Tie as tie

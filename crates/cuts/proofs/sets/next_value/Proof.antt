@@ -3,8 +3,8 @@ use mathlib.Core.Path.{_≡_}
 use Prim.Native.Nat.{_≤_, _-_}
 use native.Mathlib.Omega.{arith}
 use Rattle.laws.specs.Lists.{at}
+use Rattle.setshores.proofs.Columns.{place-next}
 use Rattle.cuts.specs.Thresholds.{Next-value}
-use Rattle.cuts.proofs.Columns.{place-next}
 use Rattle.cuts.proofs.Nearer.{next-none}
 use borrow.Author.Needs.{needs}
 use Rattle.cuts.proofs.sets.next_value.Statement.{statement}

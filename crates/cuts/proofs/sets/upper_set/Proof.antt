@@ -8,7 +8,7 @@ use lib.Dec.{leb}
 use Rattle.laws.specs.Lists.{at}
 use Rattle.junctions.specs.Sets.{gather}
 use Rattle.certificates.specs.Cuts.{upper}
-use Rattle.cuts.proofs.Columns.{place-next}
+use Rattle.setshores.proofs.Columns.{place-next}
 use borrow.Author.Needs.{needs}
 use Rattle.cuts.proofs.sets.upper_set.Statement.{statement}
 use Rattle.cuts.proofs.sets.upper_set.Tie as tie

@@ -2,8 +2,8 @@
 use Prim.Native.Nat.{ℕ, _-_, _^_, _≤_, _<_}
 use native.Mathlib.Omega.{arith}
 use Rattle.laws.specs.Lists.{at}
-use Rattle.cuts.specs.Listed.{Added}
-use Rattle.cuts.specs.Shores.{levels-weigh}
+use Rattle.shorelist.specs.Listed.{Added}
+use Rattle.cuts.specs.Thresholds.{levels-weigh}
 use Rattle.cuts.proofs.UpperSets.{next-high, upper-fits, added-none, fits-next, added-next, added-all}
 use borrow.Author.Needs.{needs}
 use Rattle.cuts.proofs.thresholds.add_thresholds.Statement.{statement}
