@@ -1,11 +1,8 @@
 pub mod Accepted
 pub mod Columns
-pub mod Fields
 pub mod Links
 pub mod Order
-pub mod Pairs
 pub mod Progress
 pub mod Records
 pub mod Refusals
 pub mod Reply
-pub mod Rest

@@ -12,7 +12,7 @@ use Rattle.hall.specs.Hall.{hall, count}
 use Rattle.hall.specs.File.{Refusal, refusal, or-else, field, blocks, pairs-good, all-rows, hall-in, rows-refusal, connected, hall-refusal}
 use Rattle.joining.specs.Sound.{Sound}
 use Rattle.joining.proofs.Sound.{other-sound}
-use Rattle.hallfile.specs.Places.{Table}
+use Rattle.filerows.specs.Places.{Table}
 use Rattle.hallfile.specs.Shape.{shape-refusal}
 
 abbrev pub length-good : List ℕ → Bool

@@ -10,11 +10,12 @@ use lib.ListN.{length, getD, set, take, drop, length-drop, drop-of-length-le}
 use lib.Seq.{drop-cons, take-all}
 use Rattle.hall.specs.Hall.{Row, row-of, hall, count}
 use Rattle.hall.specs.File.{refusal, all-rows, rows-at, rows-refusal}
-use Rattle.hallfile.specs.declared.places.Place.{Place}
-use Rattle.hallfile.specs.Places.{Stands, rest-at, row-refusal}
+use Rattle.filerows.specs.declared.places.Place.{Place}
+use Rattle.filerows.specs.Places.{Stands, rest-at}
+use Rattle.filerows.proofs.Rest.{this-row, later-rows}
 use Rattle.hallfile.specs.Record.{padded, column, record-of}
+use Rattle.hallfile.specs.Shape.{row-refusal}
 use Rattle.hallfile.proofs.Columns.{column-store}
-use Rattle.hallfile.proofs.Rest.{this-row, later-rows}
 use Rattle.hallfile.proofs.Refusals.{rows-refuse, rows-go-on}
 
 pub record Progress (bs : List ℕ) (n m : ℕ) (tails heads prices : List ℕ) (p : Place) (i : ℕ) : Type 0 where

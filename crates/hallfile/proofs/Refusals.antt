@@ -8,7 +8,7 @@ use borrow.Author.Tests.{eq-eqb, ne-eqb, lt-ltb, le-ltb, leb-true, eqb-true, eqb
 use Rattle.laws.proofs.Booleans.{by-bool, clash, and-l, and-r}
 use Rattle.hall.specs.Hall.{Row}
 use Rattle.hall.specs.File.{Refusal, refusal, row-number, rows-refusal}
-use Rattle.hallfile.specs.Places.{row-refusal}
+use Rattle.hallfile.specs.Shape.{row-refusal}
 
 -- both ends are among n junctions
 abbrev pub ends-good : (n : ℕ) → Row → Bool

@@ -1,4 +1,2 @@
-pub mod Places
 pub mod Record
 pub mod Shape
-pub mod Steps

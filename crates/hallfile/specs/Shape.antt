@@ -1,11 +1,15 @@
--- The refusals that need no walk through the hall. Assumes nothing: these are definitions.
+-- The refusals that need no walk through the hall: that of one row, and the first of 2 to 8. Assumes nothing: these are definitions.
 use mathlib.Core.Bool.{_&&_, not, cond}
 use mathlib.Core.List.{List}
 use Prim.Native.Nat.{ℕ, _+_, _*_}
-use lib.Dec.{ltb, leb}
+use lib.Dec.{ltb, leb, eqb}
 use lib.ListN.{length}
-use Rattle.hall.specs.Hall.{count}
-use Rattle.hall.specs.File.{Refusal, refusal, field, blocks, pairs-good, hall-in, rows-refusal}
+use Rattle.hall.specs.Hall.{Row, count}
+use Rattle.hall.specs.File.{Refusal, refusal, field, blocks, pairs-good, hall-in, row-number, rows-refusal}
+
+-- 6, 7 or 8 for row i, or none
+unfoldable pub row-refusal : (i n : ℕ) → Row → Refusal
+row-refusal i n r = cond (eqb (row-number n r) 0) (refusal 0 0) (refusal (row-number n r) i)
 
 -- the first refusal of 2 to 8 that a file meets, in the fixed order
 unfoldable pub shape-refusal : List ℕ → Refusal

@@ -1,16 +1,18 @@
 // Reading a hall from the bytes of its file: refusals 2 to 9 in their fixed order, and the hall as columns.
 ghost use mathlib.Core.Path.{_≡_};
-ghost use Rattle.hall.specs.File.{hall-in, hall-refusal};
+ghost use mathlib.Core.Bool.{_&&_};
+ghost use Prim.Native.Nat.{_+_, _*_};
+ghost use lib.Dec.{leb};
+ghost use lib.ListN.{length};
+ghost use Rattle.hall.specs.File.{pairs-good, hall-in, hall-refusal};
 ghost use Rattle.hallfile.specs.Record.{Replies, empty-record};
 ghost use Rattle.hallfile.specs.Shape.{shape-refusal};
+use filerows::blocks;
+use filerows::little;
 use refusals::Kind;
 
-mod blocks;
 mod connected;
-mod little;
-mod places;
 mod rows;
-mod view;
 
 // A hall as columns: row i stands at place i - 1, unused places are zero.
 pub struct HallRecord {
@@ -64,6 +66,19 @@ impl Reading {
     }
 }
 
+// There are few enough blocks, the table lies in the file and keeps the rules.
+fn table_fits(file: &[u8], blocks: usize) -> bool
+    ensures { λ r. ⌜ r ≡ (leb blocks 16 && (leb (4 + 8 * blocks) (length (now (file .entry))) && pairs-good blocks 0 (4 + 8 * blocks) (now (file .entry)))) ⌝ }
+{
+    if HallRecord::BLOCKS < blocks {
+        return false;
+    }
+    if file.len() < 4 + 8 * blocks {
+        return false;
+    }
+    blocks::pairs_fit(file, blocks)
+}
+
 // Refusals 2 to 8, and the hall where there is none.
 fn read_shape(file: &[u8]) -> Reading
     ensures { λ r. ⌜ Replies (shape-refusal (now (file .entry))) (hall-in (now (file .entry))) r ⌝ }
@@ -77,7 +92,7 @@ fn read_shape(file: &[u8]) -> Reading
         return Reading::refused(Kind::JunctionCount);
     }
     let blocks = little::number(file, 2, 2) as usize;
-    if !blocks::table_fits(file, blocks) {
+    if !table_fits(file, blocks) {
         return Reading::refused(Kind::Blocks);
     }
     let count = blocks::row_count(file, blocks);

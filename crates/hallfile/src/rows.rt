@@ -1,9 +1,9 @@
 // The rows, read in place, block after block: each is checked, and stored in the columns.
 use crate::HallRecord;
 use crate::Reading;
-use crate::places::Lane;
-use crate::places::Place;
-use crate::view;
+use filerows::places::Lane;
+use filerows::places::Place;
+use filerows::view;
 use refusals::Kind;
 ghost use mathlib.Core.Path.{_≡_};
 ghost use Prim.Native.Nat.{_≤_};
@@ -11,8 +11,9 @@ ghost use lib.ListN.{length};
 ghost use Rattle.hall.specs.Hall.{row-of, hall};
 ghost use Rattle.hall.specs.File.{blocks, rows-refusal, all-rows};
 ghost use Rattle.refusals.specs.Kinds.{refusal-of};
+ghost use Rattle.filerows.specs.Places.{Table};
 ghost use Rattle.hallfile.specs.Record.{Replies};
-ghost use Rattle.hallfile.specs.Places.{Table, row-refusal};
+ghost use Rattle.hallfile.specs.Shape.{row-refusal};
 
 // 6, 7 or 8 for row i of a hall of n junctions, or none.
 pub fn lane_refusal(n: usize, lane: Lane, i: u32) -> Kind

@@ -8,10 +8,10 @@ use lib.Dec.{eqb}
 use borrow.Author.Needs.{needs}
 use Rattle.hall.specs.File.{refusal, blocks}
 use Rattle.hall.specs.Hall.{Row, row-of}
-use Rattle.hallfile.specs.declared.places.Lane.{Lane}
 use Rattle.refusals.specs.Kinds.{refusal-of}
-use Rattle.hallfile.specs.Places.{row-refusal}
+use Rattle.filerows.specs.declared.places.Lane.{Lane}
 use Rattle.hallfile.specs.Record.{padded}
+use Rattle.hallfile.specs.Shape.{row-refusal}
 use Rattle.hallfile.proofs.Refusals.{fine-row, fine-ends}
 use Rattle.refusals.proofs.Numbers.{is-fine, is-refused}
 use Rattle.hallfile.proofs.Reply.{reply-refused, reply-hall}

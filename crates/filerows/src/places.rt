@@ -1,0 +1,75 @@
+// Places between the rows of a file, and the row in front of a place.
+use crate::blocks;
+use crate::little;
+ghost use mathlib.Core.Path.{_≡_};
+ghost use Prim.Native.Nat.{_+_, _≤_, _<_};
+ghost use lib.ListN.{length};
+ghost use Rattle.hall.specs.File.{field};
+ghost use Rattle.filerows.specs.Steps.{Row-ahead, Settled-place, Next-row};
+
+// Where the next row stands, how many rows its block has left, and the block after it.
+pub struct Place {
+    pub at: usize,
+    pub left: usize,
+    pub block: usize,
+}
+
+// A row as the file has it.
+pub struct Lane {
+    pub from: u64,
+    pub to: u64,
+    pub price: u64,
+}
+
+// A row, and the place after it.
+pub struct Step {
+    pub lane: Lane,
+    pub after: Place,
+}
+
+// The place of a row that is there to read: where a block is used up, the next block's first.
+pub fn settle(file: &[u8], place: Place) -> Place
+    requires { ⌜ Row-ahead (now file) place ⌝ }
+    ensures { λ r. ⌜ Settled-place (now (file .entry)) place r ⌝ }
+{
+    let left = place.left;
+    if 0 < left {
+        return place;
+    }
+    let k = place.block;
+    let at = blocks::start(file, k) as usize;
+    let rows = (blocks::size(file, k) / 8) as usize;
+    Place {
+        at,
+        left: rows,
+        block: k + 1,
+    }
+}
+
+// The row in the eight bytes from place `at` on.
+pub fn lane_at(file: &[u8], at: usize) -> Lane
+    requires { ⌜ at + 8 ≤ length (now file) ⌝ }
+    ensures { λ r. ⌜ (r .from ≡ field at 2 (now (file .entry))) × (r .to ≡ field (at + 2) 2 (now (file .entry))) × (r .price ≡ field (at + 4) 4 (now (file .entry))) ⌝ }
+{
+    let from = little::number(file, at, 2);
+    let to = little::number(file, at + 2, 2);
+    let price = little::number(file, at + 4, 4);
+    Lane { from, to, price }
+}
+
+// The row in front of a place, and the place after it.
+pub fn step_from(file: &[u8], place: Place) -> Step
+    requires { ⌜ Row-ahead (now file) place ⌝ }
+    ensures { λ r. ⌜ Next-row (now (file .entry)) place r ⌝ }
+{
+    let here = settle(file, place);
+    let lane = lane_at(file, here.at);
+    Step {
+        lane,
+        after: Place {
+            at: here.at + 8,
+            left: here.left - 1,
+            block: here.block,
+        },
+    }
+}
