@@ -1,9 +1,8 @@
 -- Replies of a reader: a refusal with the empty record, or none with the hall's. Assumes nothing.
-use mathlib.Core.Path.{_≡_, refl, sym, ap, _∙_}
-use mathlib.Core.Bool.{Bool, true, false, not}
+use mathlib.Core.Path.{_≡_, sym, ap, _∙_}
+use mathlib.Core.Bool.{true, false}
 use lib.Dec.{eqb}
-use borrow.Author.Tests.{not-true, not-false}
-use Rattle.laws.proofs.Booleans.{clash, cond-true, cond-false}
+use Rattle.laws.proofs.Booleans.{cond-true, cond-false}
 use Rattle.hall.specs.Hall.{Hall}
 use Rattle.hall.specs.File.{Refusal, refusal}
 use Rattle.refusals.specs.declared.Kind.{Kind}

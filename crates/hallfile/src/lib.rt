@@ -1,4 +1,5 @@
 // Reading a hall from the bytes of its file: refusals 2 to 9 in their fixed order, and the hall as columns.
+// It stands on the rows of `filerows`, what a hall's rows reach (`adjacency`, `digraph`) and the kinds of `refusals`.
 ghost use mathlib.Core.Path.{_≡_};
 ghost use mathlib.Core.Bool.{_&&_};
 ghost use Prim.Native.Nat.{_+_, _*_};

@@ -1,5 +1,5 @@
 // A joining choice to start from: of rows that join each is dropped, dearest first, if the others still join.
-// It stands on the arcs of rows (`adjacency`, `tight`) and what they reach (`digraph`); `Joining` is that of `dicuts`.
+// It stands on the order of the rows (`dearest`), their arcs (`adjacency`, `tight`) and what these reach (`digraph`); `Joining` is that of `dicuts`.
 use junctions::place;
 ghost use mathlib.Core.Path.{_≡_};
 ghost use mathlib.Core.Bool.{true};
@@ -7,13 +7,12 @@ ghost use Prim.Native.Nat.{ℕ, suc, _≤_, _<_};
 ghost use Rattle.laws.specs.Lists.{at};
 ghost use Rattle.junctions.specs.Sets.{holds};
 ghost use Rattle.digraph.specs.Reach.{Closed};
+ghost use Rattle.dearest.specs.Ranks.{Rankable};
 ghost use Rattle.hall.specs.Hall.{Hall};
 ghost use Rattle.dicuts.specs.Shores.{Ranged, once, Joining};
 ghost use Rattle.columns.specs.Columns.{flagged, Ends, Columns};
 ghost use Rattle.pruning.specs.Backed.{Backed};
-ghost use Rattle.pruning.specs.Start.{Rankable, Among};
-
-mod dearest;
+ghost use Rattle.pruning.specs.Start.{Among};
 
 // Whether the target is reached from the start.
 fn leads(arcs: &[u64; 64], start: usize, target: usize) -> bool
