@@ -1,5 +1,5 @@
 -- Sets filled from the first rows of the columns, row by row, and that at the end they are the arcs. Assumes nothing.
-use mathlib.Core.Path.{_≡_, refl, sym, ap, _∙_}
+use mathlib.Core.Path.{_≡_, refl, sym, ap, ap₂, _∙_}
 use mathlib.Core.Bool.{Bool, true, false, _&&_, _||_, or-assoc, or-false}
 use mathlib.Core.List.{List}
 use Prim.Native.Nat.{ℕ, suc, _+_, _-_, _*_, _%_, _^_, _≤_, _<_}
@@ -9,17 +9,13 @@ use lib.Bits.{bitOr, or-lt}
 use lib.Dec.{eqb}
 use lib.ListN.{length, getD, set, replicate, length-set}
 use lib.Pow.{pow-pos}
-use lib.Seq.{getD-set-same, getD-set-other}
-use borrow.Author.Tests.{eqb-true, eqb-false, eq-eqb, ne-eqb}
 use Rattle.laws.specs.Lists.{at}
 use Rattle.laws.specs.Finite.{any-below}
-use Rattle.laws.proofs.Booleans.{by-bool}
 use Rattle.laws.proofs.Agree.{any-ext}
 use Rattle.laws.proofs.Lists.{replicate-at}
 use Rattle.junctions.specs.Sets.{holds, gather}
-use Rattle.junctions.proofs.Bits.{one-shl}
-use Rattle.junctions.proofs.Sets.{or-holds, one-holds, none-holds, sets-ext, gather-lt, gather-holds}
-use Rattle.junctions.proofs.Single.{one-lt}
+use Rattle.junctions.proofs.Sets.{none-holds, sets-ext, gather-lt, gather-holds}
+use Rattle.junctions.proofs.Adding.{added, added-lt, added-of, mask, mask-lt, mask-holds}
 use Rattle.hall.specs.Hall.{Hall, row}
 use Rattle.dicuts.specs.Arcs.{arc, arcs}
 use Rattle.columns.specs.Columns.{flagged, Ends, Columns, Arcs}
@@ -36,62 +32,30 @@ pub record Filling (n i : ℕ) (tails heads : List ℕ) (flags : List Bool) (set
   pub low : (x : ℕ) → at sets x < 2 ^ n
   pub holding : (x y : ℕ) → 1 ≤ x → 1 ≤ y → holds (at sets x) y ≡ any-below i (leads tails heads flags x y)
 
--- b is put into the set of a
-abbrev pub put : List ℕ → (a b : ℕ) → List ℕ
-put sets a b = set sets (a - 1) (bitOr (getD sets (a - 1) 0) ((1 * 2 ^ (b - 1)) % 2 ^ 64))
-
-eqb-turn : (a b : ℕ) → eqb a b ≡ eqb b a
-eqb-turn a b = by-bool (eqb a b) (λ t. t ∙ sym (eq-eqb b a (sym (eqb-true a b t)))) (λ t. t ∙ sym (ne-eqb b a (λ e. eqb-false a b t (sym e))))
-
-module _ (n : ℕ) (few : n ≤ 64) (sets : List ℕ) (size : length sets ≡ 64) (low : (x : ℕ) → at sets x < 2 ^ n)
-    (a b : ℕ) (a-low : 1 ≤ a) (a-high : a ≤ n) (b-low : 1 ≤ b) (b-high : b ≤ n) where
-  put-here : at (put sets a b) a ≡ bitOr (at sets a) (2 ^ (b - 1))
-  put-here =
-      getD-set-same sets (a - 1) (bitOr (getD sets (a - 1) 0) ((1 * 2 ^ (b - 1)) % 2 ^ 64)) 0 (omega arith)
-      ∙ ap (bitOr (at sets a)) (one-shl (b - 1) (omega arith))
-
-  put-there : (x : ℕ) → (a - 1 ≡ x - 1 → ⊥) → at (put sets a b) x ≡ at sets x
-  put-there x d = getD-set-other sets (a - 1) (x - 1) (bitOr (getD sets (a - 1) 0) ((1 * 2 ^ (b - 1)) % 2 ^ 64)) 0 (λ e. d (sym e))
-
-  pub put-low : (x : ℕ) → at (put sets a b) x < 2 ^ n
-  put-low x =
-      by-bool (eqb (a - 1) (x - 1))
-      (λ t.
-      let same : at (put sets a b) x ≡ at (put sets a b) a = ap (λ (k : ℕ). getD (put sets a b) k 0) (sym (eqb-true (a - 1) (x - 1) t)) in
-      rw (same ∙ put-here) (or-lt n (at sets a) (2 ^ (b - 1)) (low a) (one-lt n b b-low b-high)))
-      (λ t. rw (put-there x (eqb-false (a - 1) (x - 1) t)) (low x))
-
-  pub put-holds : (x y : ℕ) → 1 ≤ x → 1 ≤ y → holds (at (put sets a b) x) y ≡ (holds (at sets x) y || (eqb a x && eqb b y))
-  put-holds x y l m =
-      by-bool (eqb a x)
-      (λ t.
-      let same : a ≡ x = eqb-true a x t in
-      rw (t, sym same)
-      (ap (λ (s : ℕ). holds s y) put-here ∙ or-holds (at sets a) (2 ^ (b - 1)) y
-      ∙ ap (λ (q : Bool). holds (at sets a) y || q) (one-holds y b m b-low ∙ eqb-turn y b)))
-      (λ t.
-      let other : a ≡ x → ⊥ = eqb-false a x t in
-      rw t (ap (λ (s : ℕ). holds s y) (put-there x (λ e. other (omega arith))) ∙ sym (or-false (holds (at sets x) y))))
-
 -- one more row
 module _ (n i : ℕ) (ts hs : List ℕ) (fs : List Bool) (sets : List ℕ) (so-far : Filling n i ts hs fs sets) (m : ℕ) (ends : Ends n m ts hs) (more : i < m) where
+  abbrev tail : ℕ
+  tail = getD ts i 0
+
+  abbrev head : ℕ
+  head = getD hs i 0
+
   abbrev ahead : List ℕ
-  ahead = put sets (getD ts i 0) (getD hs i 0)
+  ahead = added sets (tail - 1) (mask head)
 
   ahead-size : length ahead ≡ 64
-  ahead-size = length-set sets (getD ts i 0 - 1) _ ∙ so-far .size
+  ahead-size = length-set sets (tail - 1) _ ∙ so-far .size
 
   ahead-low : (x : ℕ) → at ahead x < 2 ^ n
-  ahead-low =
-      put-low n (ends .size) sets (so-far .size) (so-far .low) (getD ts i 0) (getD hs i 0)
-      (ends .tail-low i more) (ends .tail-high i more) (ends .head-low i more) (ends .head-high i more)
+  ahead-low x =
+      added-lt n sets (tail - 1) (mask head) (x - 1) (omega (arith, so-far .size, ends .tail-low i more, ends .tail-high i more, ends .size)) (so-far .low tail)
+      (mask-lt n head (ends .size) (ends .head-low i more) (ends .head-high i more)) (so-far .low x)
 
-  ahead-holding : (x y : ℕ) → 1 ≤ x → 1 ≤ y
-      → holds (at ahead x) y ≡ (any-below i (leads ts hs fs x y) || (eqb (getD ts i 0) x && eqb (getD hs i 0) y))
+  ahead-holding : (x y : ℕ) → 1 ≤ x → 1 ≤ y → holds (at ahead x) y ≡ (any-below i (leads ts hs fs x y) || (eqb tail x && eqb head y))
   ahead-holding x y l k =
-      put-holds n (ends .size) sets (so-far .size) (so-far .low) (getD ts i 0) (getD hs i 0)
-      (ends .tail-low i more) (ends .tail-high i more) (ends .head-low i more) (ends .head-high i more) x y l k
-      ∙ ap (λ (q : Bool). q || (eqb (getD ts i 0) x && eqb (getD hs i 0) y)) (so-far .holding x y l k)
+      added-of sets tail (mask head) (ends .tail-low i more) (omega (arith, so-far .size, ends .tail-high i more, ends .size)) x y l
+      ∙ ap₂ (λ (a b : Bool). a || (eqb tail x && b)) (so-far .holding x y l k)
+      (mask-holds head y (ends .head-low i more) (omega (arith, ends .head-high i more, ends .size)) k)
 
   pub fill-ahead : getD fs i false ≡ false → Filling n (i + 1) ts hs fs ahead
   unfolding any-below leads
@@ -102,22 +66,23 @@ module _ (n i : ℕ) (ts hs : List ℕ) (fs : List Bool) (sets : List ℕ) (so-f
         holding = λ x y l k.
             rw (add-one i, f)
             (ahead-holding x y l k
-            ∙ ap (λ (q : Bool). any-below i (leads ts hs fs x y) || q) (sym (or-false (eqb (getD ts i 0) x && eqb (getD hs i 0) y))));
+            ∙ ap (λ (q : Bool). any-below i (leads ts hs fs x y) || q) (sym (or-false (eqb tail x && eqb head y))));
       }
 
-  pub fill-both : getD fs i false ≡ true → Filling n (i + 1) ts hs fs (put ahead (getD hs i 0) (getD ts i 0))
+  pub fill-both : getD fs i false ≡ true → Filling n (i + 1) ts hs fs (added ahead (head - 1) (mask tail))
   unfolding any-below leads
   fill-both f =
       record {
-        size = length-set ahead (getD hs i 0 - 1) _ ∙ ahead-size;
-        low = put-low n (ends .size) ahead ahead-size ahead-low (getD hs i 0) (getD ts i 0)
-            (ends .head-low i more) (ends .head-high i more) (ends .tail-low i more) (ends .tail-high i more);
+        size = length-set ahead (head - 1) _ ∙ ahead-size;
+        low = λ x.
+            added-lt n ahead (head - 1) (mask tail) (x - 1) (omega (arith, ahead-size, ends .head-low i more, ends .head-high i more, ends .size)) (ahead-low head)
+            (mask-lt n tail (ends .size) (ends .tail-low i more) (ends .tail-high i more)) (ahead-low x);
         holding = λ x y l k.
             rw (add-one i, f)
-            (put-holds n (ends .size) ahead ahead-size ahead-low (getD hs i 0) (getD ts i 0)
-            (ends .head-low i more) (ends .head-high i more) (ends .tail-low i more) (ends .tail-high i more) x y l k
-            ∙ ap (λ (q : Bool). q || (eqb (getD hs i 0) x && eqb (getD ts i 0) y)) (ahead-holding x y l k)
-            ∙ or-assoc (any-below i (leads ts hs fs x y)) (eqb (getD ts i 0) x && eqb (getD hs i 0) y) (eqb (getD hs i 0) x && eqb (getD ts i 0) y));
+            (added-of ahead head (mask tail) (ends .head-low i more) (omega (arith, ahead-size, ends .head-high i more, ends .size)) x y l
+            ∙ ap₂ (λ (a b : Bool). a || (eqb head x && b)) (ahead-holding x y l k)
+            (mask-holds tail y (ends .tail-low i more) (omega (arith, ends .tail-high i more, ends .size)) k)
+            ∙ or-assoc (any-below i (leads ts hs fs x y)) (eqb tail x && eqb head y) (eqb head x && eqb tail y));
       }
 
 -- no row

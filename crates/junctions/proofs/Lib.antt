@@ -8,3 +8,4 @@ pub mod Bounds
 pub mod Single
 pub mod Gather
 pub mod Taking
+pub mod Adding

@@ -18,6 +18,8 @@ use Rattle.digraph.specs.Reach.{Reach}
 use Rattle.digraph.specs.Closure.{closure}
 use Rattle.digraph.proofs.Closure.{closure-reach, closure-lt, reach-narrow, reach-widen}
 use Rattle.digraph.proofs.Same.{reach-alike}
+use Rattle.growth.specs.Robust.{arcs-without, Robust, RobustSet}
+use Rattle.growth.proofs.Cut.{cut-holds, cut-lt}
 use Rattle.hall.specs.Hall.{Hall, row, count}
 use Rattle.dicuts.specs.Shores.{Ranged, once, Joining, around}
 use Rattle.dicuts.specs.Arcs.{arc, arcs}
@@ -27,8 +29,6 @@ use Rattle.joining.proofs.Joining.{joining-reach}
 use Rattle.neighbours.specs.Removal.{without, Spared, Chosen}
 use Rattle.neighbours.proofs.Removal.{around-reached, reached-around}
 use Rattle.tight.specs.Solid.{forward, backward, solid}
-use Rattle.tight.specs.Robust.{arcs-without, Robust, RobustSet}
-use Rattle.tight.proofs.Cut.{cut-holds, cut-lt}
 use Rattle.tight.proofs.Dropped.{arc-rows, dropped-solid, dropped-frail}
 
 -- a frail arc is the way back of a chosen row

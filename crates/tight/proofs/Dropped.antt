@@ -13,13 +13,13 @@ use Rattle.laws.proofs.Twice.{count-other, count-twice}
 use Rattle.junctions.specs.Sets.{holds}
 use Rattle.junctions.proofs.Sets.{gather-lt}
 use Rattle.junctions.proofs.Bounds.{junction-le}
+use Rattle.growth.specs.Robust.{arcs-without}
+use Rattle.growth.proofs.Cut.{cut-holds}
 use Rattle.hall.specs.Hall.{Hall, row, count}
 use Rattle.dicuts.specs.Arcs.{arc, arcs}
 use Rattle.joining.proofs.Sealed.{arcs-arc, arc-arcs}
 use Rattle.neighbours.specs.Removal.{without, Chosen}
 use Rattle.tight.specs.Solid.{forward, backward, solid}
-use Rattle.tight.specs.Robust.{arcs-without}
-use Rattle.tight.proofs.Cut.{cut-holds}
 
 -- an arc is a row forward, or one of F backward
 pub arc-rows :

@@ -12,12 +12,12 @@ use Rattle.laws.specs.Lists.{at}
 use Rattle.laws.proofs.Booleans.{by-bool, clash}
 use Rattle.junctions.specs.Sets.{holds}
 use Rattle.junctions.proofs.Sets.{none-holds}
+use Rattle.growth.specs.Robust.{Robust, RobustSet}
+use Rattle.growth.specs.Growth.{Known, Robust-from}
 use Rattle.hall.specs.Hall.{Hall}
 use Rattle.dicuts.specs.Shores.{Ranged, once, Joining, around}
 use Rattle.columns.specs.Columns.{Columns, Arcs, Neighbourhoods}
 use Rattle.tight.specs.Solid.{Solid-arcs}
-use Rattle.tight.specs.Robust.{Robust, RobustSet}
-use Rattle.tight.specs.Growth.{Known, Robust-from}
 use Rattle.tight.proofs.Around.{robust-set-around}
 
 pub found-none : (arcs solid : List ℕ) (n : ℕ) → n ≤ 64 → Robust-from arcs solid (replicate 64 0) n n

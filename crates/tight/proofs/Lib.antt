@@ -1,11 +1,4 @@
-pub mod Cut
-pub mod Reached
 pub mod Dropped
 pub mod Around
 pub mod SolidRows
-pub mod Expanding
-pub mod Sure
-pub mod Searches
-pub mod Meetings
-pub mod Meets
 pub mod Each

@@ -9,7 +9,6 @@ use native.Mathlib.Omega.{arith}
 use lib.Bits.{bitAnd, bitOr}
 use lib.Dec.{eqb, leb}
 use lib.ListN.{length, getD, set, replicate, length-set}
-use lib.Seq.{getD-set-same, getD-set-other}
 use borrow.Author.Tests.{eqb-true, eqb-false, eq-eqb, ne-eqb, leb-true, le-leb}
 use Rattle.laws.specs.Lists.{at}
 use Rattle.laws.specs.Finite.{any-below, sum-below, count-below, one-if}
@@ -18,38 +17,13 @@ use Rattle.laws.proofs.Agree.{any-ext}
 use Rattle.laws.proofs.Counts.{count-ext}
 use Rattle.laws.proofs.Lists.{replicate-at}
 use Rattle.junctions.specs.Sets.{holds}
-use Rattle.junctions.proofs.Bits.{one-shl}
-use Rattle.junctions.proofs.Sets.{and-holds, or-holds, one-holds, none-holds}
+use Rattle.junctions.proofs.Sets.{and-holds, none-holds}
+use Rattle.junctions.proofs.Adding.{added, added-of, mask, mask-holds}
 use Rattle.hall.specs.Hall.{Hall}
 use Rattle.columns.specs.Columns.{flagged, Columns}
 use Rattle.columns.proofs.Places.{place-tail, place-head}
 use Rattle.tight.specs.SolidRows.{ahead, back, Solid-rows}
 use Rattle.tight.specs.Solid.{forward, backward, solid, Solid-arcs}
-
--- the code's 1 << (b - 1)
-abbrev mask : ℕ → ℕ
-mask b = (1 * 2 ^ (b - 1)) % 2 ^ 64
-
-mask-holds : (b y : ℕ) → 1 ≤ b → b ≤ 64 → 1 ≤ y → holds (mask b) y ≡ eqb b y
-mask-holds b y l m k =
-    ap (λ (s : ℕ). holds s y) (one-shl (b - 1) (omega arith)) ∙ one-holds y b k l
-    ∙ by-bool (eqb y b) (λ e. e ∙ sym (eq-eqb b y (sym (eqb-true y b e)))) (λ e. e ∙ sym (ne-eqb b y (λ q. eqb-false y b e (sym q))))
-
--- more is put into the set of a
-pub grown-holds :
-    (sets : List ℕ) (a more : ℕ) → length sets ≡ 64 → 1 ≤ a → a ≤ 64 → (x y : ℕ) → 1 ≤ x →
-    holds (at (set sets (a - 1) (bitOr (getD sets (a - 1) 0) more)) x) y ≡ (holds (at sets x) y || (eqb a x && holds more y))
-grown-holds sets a more size la ma x y lx =
-    let next = bitOr (getD sets (a - 1) 0) more in
-    by-bool (eqb a x)
-    (λ e.
-    rw (e, sym (eqb-true a x e))
-    (ap (λ (s : ℕ). holds s y) (getD-set-same sets (a - 1) next 0 (omega arith)) ∙ or-holds (getD sets (a - 1) 0) more y))
-    (λ e.
-    let apart : a ≡ x → ⊥ = eqb-false a x e in
-    rw e
-    (ap (λ (s : ℕ). holds s y) (getD-set-other sets (a - 1) (x - 1) next 0 (λ q. apart (omega arith)))
-    ∙ sym (or-false (holds (at sets x) y))))
 
 -- no row
 pub solid-none : (ts hs : List ℕ) (fs : List Bool) → Solid-rows 0 ts hs fs (replicate 64 0) (replicate 64 0)
@@ -106,7 +80,7 @@ module _ (i : ℕ) (ts hs : List ℕ) (fs : List Bool) (once solids : List ℕ) 
 
   -- the row forward
   abbrev with-ahead : List ℕ
-  with-ahead = set solids (tail - 1) (bitOr (getD solids (tail - 1) 0) (mask head))
+  with-ahead = added solids (tail - 1) (mask head)
 
   with-ahead-size : length with-ahead ≡ 64
   with-ahead-size = length-set solids (tail - 1) (bitOr (getD solids (tail - 1) 0) (mask head)) ∙ so-far .solids-size
@@ -116,7 +90,7 @@ module _ (i : ℕ) (ts hs : List ℕ) (fs : List Bool) (once solids : List ℕ) 
 
   with-ahead-holds : (x y : ℕ) → 1 ≤ x → 1 ≤ y → holds (at with-ahead x) y ≡ ((any-below i (ahead ts hs x y) || leb 2 (backs x y)) || ahead ts hs x y i)
   with-ahead-holds x y l k =
-      grown-holds solids tail (mask head) (so-far .solids-size) tail-low tail-high x y l
+      added-of solids tail (mask head) tail-low (omega (arith, so-far .solids-size)) x y l
       ∙ ap₂ (λ (a b : Bool). a || (eqb tail x && b)) (so-far .solids-hold x y l k) (mask-holds head y head-low head-high k)
 
   pub solid-ahead : getD fs i false ≡ false → Solid-rows (i + 1) ts hs fs once with-ahead
@@ -146,21 +120,20 @@ module _ (i : ℕ) (ts hs : List ℕ) (fs : List Bool) (once solids : List ℕ) 
 
   pub solid-both :
       getD fs i false ≡ true →
-      Solid-rows (i + 1) ts hs fs (set once (head - 1) (bitOr (getD once (head - 1) 0) (mask tail)))
-      (set with-ahead (head - 1) (bitOr (getD with-ahead (head - 1) 0) again))
+      Solid-rows (i + 1) ts hs fs (added once (head - 1) (mask tail)) (added with-ahead (head - 1) again)
   unfolding any-below count-below sum-below
   solid-both f =
       record {
         once-size = length-set once (head - 1) (bitOr (getD once (head - 1) 0) (mask tail)) ∙ so-far .once-size;
         solids-size = length-set with-ahead (head - 1) (bitOr (getD with-ahead (head - 1) 0) again) ∙ with-ahead-size;
         once-holds = λ x y l k.
-            grown-holds once head (mask tail) (so-far .once-size) head-low head-high x y l
+            added-of once head (mask tail) head-low (omega (arith, so-far .once-size)) x y l
             ∙ ap₂ (λ (a b : Bool). a || (eqb head x && b)) (so-far .once-holds x y l k) (mask-holds tail y tail-low tail-high k)
             ∙ sym (rw (add-one i, f) (first-more (backs x y) (eqb head x && eqb tail y)));
         solids-hold = λ x y l k.
             let a = any-below i (ahead ts hs x y) in
             let both = eqb head x && eqb tail y in
-            grown-holds with-ahead head again with-ahead-size head-low head-high x y l
+            added-of with-ahead head again head-low (omega (arith, with-ahead-size)) x y l
             ∙ ap₂ _||_ (with-ahead-holds x y l k) (again-holds x y k)
             ∙ or-twice a (leb 2 (backs x y)) (ahead ts hs x y i) both (leb 1 (backs x y))
             ∙ sym (rw (add-one i, f) (ap (λ (b : Bool). (a || ahead ts hs x y i) || b) (second-more (backs x y) both)));

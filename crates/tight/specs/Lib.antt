@@ -1,4 +1,2 @@
 pub mod Solid
-pub mod Robust
-pub mod Growth
 pub mod SolidRows

@@ -1,13 +1,11 @@
 // Tight neighbourhoods of a joining choice: what a junction reaches even without any one frail arc.
-use crate::growth::neighbourhood;
+use growth::neighbourhood;
 ghost use mathlib.Core.Path.{_≡_};
 ghost use Prim.Native.Nat.{_≤_};
 ghost use Rattle.hall.specs.Hall.{Hall};
 ghost use Rattle.dicuts.specs.Shores.{around, Ranged, once, Joining};
 ghost use Rattle.columns.specs.Columns.{Ends, Columns, Neighbourhoods, flagged};
 ghost use Rattle.tight.specs.Solid.{Solid-arcs};
-
-pub mod growth;
 
 // For each junction the junctions that solid arcs lead to: where a row runs, or a second flagged row runs the other way.
 pub fn solid_arcs<'a>(

@@ -8,13 +8,13 @@ use native.Mathlib.Omega.{arith}
 use lib.Bits.{bitOr}
 use lib.Dec.{eqb}
 use lib.ListN.{getD, length, set, length-set, replicate, length-replicate, getD-replicate}
-use lib.Seq.{getD-set-same, getD-set-other}
 use borrow.Author.Tests.{eqb-true, eqb-false, eq-eqb}
 use Rattle.laws.specs.Lists.{at}
 use Rattle.laws.specs.Finite.{any-below}
 use Rattle.laws.proofs.Booleans.{by-bool, and-l, and-r, and-i, bool-ext}
 use Rattle.junctions.specs.Sets.{holds}
-use Rattle.junctions.proofs.Sets.{or-holds, none-holds}
+use Rattle.junctions.proofs.Sets.{none-holds}
+use Rattle.junctions.proofs.Adding.{added, added-holds}
 use Rattle.hall.specs.Hall.{Hall, row, count}
 use Rattle.columns.specs.Columns.{flagged, Columns}
 use Rattle.columns.proofs.Places.{place-tail, place-head}
@@ -22,19 +22,6 @@ use Rattle.potentials.specs.Potential.{gap}
 use Rattle.potentials.specs.ZeroGraph.{opens, closes}
 use Rattle.potentials.proofs.Arcs.{opens-true, true-opens, closes-true, true-closes}
 use Rattle.zerograph.specs.Zero.{Row-arcs}
-
--- a list of sets with w put into the one at place a
-pub or-at-holds :
-    (sets : List ℕ) (a w : ℕ) → a < length sets → (z y : ℕ) →
-    holds (getD (set sets a (bitOr (getD sets a 0) w)) z 0) y ≡ (holds (getD sets z 0) y || (eqb z a && holds w y))
-or-at-holds sets a w less z y =
-    let v : ℕ = bitOr (getD sets a 0) w in
-    by-bool (eqb z a)
-    (λ e.
-    let q : z ≡ a = eqb-true z a e in
-    rw (e, q) (ap (λ (s : ℕ). holds s y) (getD-set-same sets a v 0 less) ∙ or-holds (getD sets a 0) w y))
-    (λ e.
-    rw e (ap (λ (s : ℕ). holds s y) (getD-set-other sets a z v 0 (eqb-false z a e)) ∙ sym (or-false (holds (getD sets z 0) y))))
 
 module _ (h : Hall) (n m : ℕ) (tails heads costs : List ℕ) (movable chosen : List Bool) (potential : List ℕ)
     (cols : Columns h n m tails heads) (k a b : ℕ) (less : k < m) (tail-is : suc a ≡ getD tails k 0) (head-is : suc b ≡ getD heads k 0) where
@@ -147,18 +134,17 @@ module _ (h : Hall) (n m : ℕ) (tails heads costs : List ℕ) (movable chosen :
       (sets : List ℕ) (opened closed : ℕ) → a < 64 → b < 64 →
       ((i : ℕ) → 1 ≤ i → holds opened i ≡ (may-open && eqb i (suc a))) → ((i : ℕ) → 1 ≤ i → holds closed i ≡ (may-close && eqb i (suc b))) →
       Row-arcs h (flagged movable) (at costs) (at potential) (flagged chosen) k sets →
-      let first : List ℕ = set sets b (bitOr (getD sets b 0) opened) in
-      Row-arcs h (flagged movable) (at costs) (at potential) (flagged chosen) (k + 1) (set first a (bitOr (getD first a 0) closed))
+      Row-arcs h (flagged movable) (at costs) (at potential) (flagged chosen) (k + 1) (added (added sets b opened) a closed)
   unfolding any-below
   row-arcs-more sets opened closed la lb open-is close-is before =
-      let first : List ℕ = set sets b (bitOr (getD sets b 0) opened) in
+      let first : List ℕ = added sets b opened in
       let size : length first ≡ 64 = length-set sets b (bitOr (getD sets b 0) opened) ∙ before .size in
       record {
         size = length-set first a (bitOr (getD first a 0) closed) ∙ size;
         arc = λ x y lx ux ly.
             rw (add-one k)
-            (or-at-holds first a closed (omega (arith, size)) (x - 1) y
-            ∙ ap₂ _||_ (or-at-holds sets b opened (omega (arith, before .size)) (x - 1) y
+            (added-holds first a closed (omega (arith, size)) (x - 1) y
+            ∙ ap₂ _||_ (added-holds sets b opened (omega (arith, before .size)) (x - 1) y
             ∙ ap₂ _||_ (before .arc x y lx ux ly) (ap (λ (t : Bool). eqb (x - 1) b && t) (open-is y ly) ∙ opens-here x y lx))
             (ap (λ (t : Bool). eqb (x - 1) a && t) (close-is y ly) ∙ closes-here x y lx)
             ∙ or-assoc (any-below k (λ i. opens h (flagged movable) (at costs) (at potential) x y (suc i) || closes h (flagged movable) (flagged chosen) x y (suc i)))

@@ -16,6 +16,8 @@ use Rattle.laws.proofs.Connectives.{and-false-l, or-false-i}
 use Rattle.laws.proofs.Finite.{any-found}
 use Rattle.junctions.specs.Sets.{holds, gather}
 use Rattle.junctions.proofs.Sets.{none-holds, gather-holds, gather-lt, high-holds}
+use Rattle.junctions.proofs.Taking.{sets-same}
+use Rattle.junctions.proofs.Adding.{added, added-holds}
 use Rattle.hall.specs.Hall.{Hall, count}
 use Rattle.dicuts.specs.Shores.{around, once}
 use Rattle.dicuts.proofs.Shores.{around-lt}
@@ -24,8 +26,6 @@ use Rattle.columns.specs.Columns.{Ends, Columns, Neighbourhoods}
 use Rattle.potentials.specs.ZeroGraph.{opens, closes, swaps, zero-arc, zero-arcs}
 use Rattle.potentials.proofs.Arcs.{opens-true, closes-true}
 use Rattle.zerograph.specs.Zero.{Row-arcs, Zero-graph}
-use Rattle.junctions.proofs.Taking.{sets-same}
-use Rattle.zerograph.proofs.Rows.{or-at-holds}
 
 -- swaps are in for the first x junctions
 pub record Swapped (h : Hall) (movable : ℕ → Bool) (c p : ℕ → ℕ) (F : ℕ → Bool) (x : ℕ) (sets : List ℕ) : Type 0 where
@@ -54,13 +54,13 @@ module _ (h : Hall) (movable : ℕ → Bool) (c : ℕ → ℕ) (potential : List
   pub swapped-more :
       (x : ℕ) (sets neighbours : List ℕ) (w : ℕ) → x < h .n → x < 64 → Neighbourhoods h F neighbours →
       ((y : ℕ) → 1 ≤ y → holds w y ≡ (holds (getD neighbours x 0) y && eqb (getD potential x 0) (at potential y))) →
-      Swapped h movable c (at potential) F x sets → Swapped h movable c (at potential) F (x + 1) (set sets x (bitOr (getD sets x 0) w))
+      Swapped h movable c (at potential) F x sets → Swapped h movable c (at potential) F (x + 1) (added sets x w)
   unfolding zero-arc swaps Neighbourhoods
   swapped-more x sets neighbours w less small near is before =
       record {
         size = length-set sets x (bitOr (getD sets x 0) w) ∙ before .size;
         done = λ z y l u k.
-            or-at-holds sets x w (omega (arith, before .size)) (z - 1) y
+            added-holds sets x w (omega (arith, before .size)) (z - 1) y
             ∙ by-bool (eqb (z - 1) x)
             (λ e.
             let q : z - 1 ≡ x = eqb-true (z - 1) x e in
@@ -69,7 +69,7 @@ module _ (h : Hall) (movable : ℕ → Bool) (c : ℕ → ℕ) (potential : List
             (rw e (is y k ∙ ap₂ (λ (s v : ℕ). holds s y && eqb v (at potential y)) there (ap (λ (i : ℕ). getD potential i 0) (sym q)))))
             (λ e. rw e (or-false (holds (at sets z) y) ∙ before .done z y l (omega (arith, eqb-false (z - 1) x e)) k));
         left = λ z y l u b k.
-            or-at-holds sets x w (omega (arith, before .size)) (z - 1) y
+            added-holds sets x w (omega (arith, before .size)) (z - 1) y
             ∙ rw (ne-eqb (z - 1) x (λ q. omega arith)) (or-false (holds (at sets z) y) ∙ before .left z y l (omega arith) b k);
       }
 

@@ -3,10 +3,10 @@ use Prim.Native.Nat.{_-_, _≤_}
 use native.Mathlib.Omega.{arith}
 use borrow.Author.Needs.{needs}
 use Rattle.laws.specs.Lists.{at}
+use Rattle.leveltable.proofs.Levels.{levels-none}
 use Rattle.hall.specs.Hall.{Hall}
 use Rattle.columns.specs.Columns.{flagged, Columns, Neighbourhoods}
 use Rattle.columns.proofs.Ranged.{ends-wide}
-use Rattle.zerograph.proofs.Levels.{levels-none}
 use Rattle.zerograph.proofs.Swaps.{Swapped, swapped-none, swapped-more, swapped-all, near-lt}
 use Rattle.zerograph.proofs.zero_graph.Statement.{statement}
 use Rattle.zerograph.proofs.zero_graph.Tie as tie
