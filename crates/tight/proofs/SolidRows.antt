@@ -2,14 +2,14 @@
 use mathlib.Core.Path.{_≡_, refl, sym, ap, ap₂, _∙_}
 use mathlib.Core.Bool.{Bool, true, false, _&&_, _||_, and-false, or-false, or-true}
 use mathlib.Core.List.{List}
-use Prim.Native.Nat.{ℕ, suc, _+_, _-_, _*_, _%_, _^_, _≤_, _<_}
+use Prim.Native.Nat.{ℕ, suc, _+_, _-_, _≤_, _<_}
 use native.Mathlib.Nat.{add-zero}
 use native.Mathlib.Numerals.{add-one}
 use native.Mathlib.Omega.{arith}
 use lib.Bits.{bitAnd, bitOr}
 use lib.Dec.{eqb, leb}
-use lib.ListN.{length, getD, set, replicate, length-set}
-use borrow.Author.Tests.{eqb-true, eqb-false, eq-eqb, ne-eqb, leb-true, le-leb}
+use lib.ListN.{length, getD, replicate, length-set}
+use borrow.Author.Tests.{eqb-true, leb-true, le-leb}
 use Rattle.laws.specs.Lists.{at}
 use Rattle.laws.specs.Finite.{any-below, sum-below, count-below, one-if}
 use Rattle.laws.proofs.Booleans.{by-bool, clash, or-r, bool-ext}

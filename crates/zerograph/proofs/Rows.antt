@@ -1,17 +1,17 @@
 -- What a row at a place of the columns adds to the zero graph. Assumes nothing.
 use mathlib.Core.Path.{_≡_, sym, ap, ap₂, _∙_}
-use mathlib.Core.Bool.{Bool, true, false, _&&_, _||_, or-false, or-assoc}
+use mathlib.Core.Bool.{Bool, true, false, _&&_, _||_, or-assoc}
 use mathlib.Core.List.{List}
 use Prim.Native.Nat.{ℕ, suc, _+_, _-_, _≤_, _<_}
 use native.Mathlib.Numerals.{add-one}
 use native.Mathlib.Omega.{arith}
 use lib.Bits.{bitOr}
 use lib.Dec.{eqb}
-use lib.ListN.{getD, length, set, length-set, replicate, length-replicate, getD-replicate}
-use borrow.Author.Tests.{eqb-true, eqb-false, eq-eqb}
+use lib.ListN.{getD, length, length-set, replicate, length-replicate, getD-replicate}
+use borrow.Author.Tests.{eqb-true, eq-eqb}
 use Rattle.laws.specs.Lists.{at}
 use Rattle.laws.specs.Finite.{any-below}
-use Rattle.laws.proofs.Booleans.{by-bool, and-l, and-r, and-i, bool-ext}
+use Rattle.laws.proofs.Booleans.{and-l, and-r, and-i, bool-ext}
 use Rattle.junctions.specs.Sets.{holds}
 use Rattle.junctions.proofs.Sets.{none-holds}
 use Rattle.junctions.proofs.Adding.{added, added-holds}

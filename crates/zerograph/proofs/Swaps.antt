@@ -7,7 +7,7 @@ use Prim.Native.Nat.{ℕ, suc, _+_, _-_, _^_, _≤_, _<_}
 use native.Mathlib.Omega.{arith}
 use lib.Bits.{bitOr}
 use lib.Dec.{eqb, leb}
-use lib.ListN.{getD, length, set, length-set}
+use lib.ListN.{getD, length, length-set}
 use borrow.Author.Tests.{eqb-true, eqb-false, ne-eqb, leb-true, leb-false}
 use Rattle.laws.specs.Lists.{at}
 use Rattle.laws.specs.Finite.{any-below}
