@@ -1,6 +1,6 @@
 // Choices of rows: whether a list of numbers is one, its rows as flags, and which junctions do not reach all.
 ghost use mathlib.Core.Path.{_≡_};
-ghost use mathlib.Core.Bool.{Bool, true, false};
+ghost use mathlib.Core.Bool.{true, false};
 ghost use mathlib.Core.List.{List};
 ghost use Prim.Native.Nat.{ℕ, suc, _-_, _^_, _≤_, _<_};
 ghost use lib.ListN.{length, getD};

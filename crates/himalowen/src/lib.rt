@@ -1,6 +1,5 @@
 // The exported calls, as include/himalowen.h declares them: a reply is an array of numbers, in the order of its fields.
 ghost use mathlib.Core.Path.{_≡_};
-ghost use Rattle.answers.specs.Answers.{outcome-of, set-of};
 ghost use Rattle.himalowen.specs.Replies.{Check-leaves, Tight-leaves, Plan-leaves, told-places, planned-places};
 use answers::Told;
 use planning::Planned;

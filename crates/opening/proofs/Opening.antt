@@ -7,7 +7,7 @@ use native.Mathlib.Omega.{arith}
 use lib.Dec.{eqb}
 use lib.ListN.{getD}
 use Rattle.laws.proofs.Booleans.{by-bool, clash, cond-true, cond-false}
-use Rattle.hall.specs.Hall.{count, is-choice, member}
+use Rattle.hall.specs.Hall.{is-choice, member}
 use Rattle.hall.specs.File.{hall-in, hall-refusal, Refusal, refusal, or-else}
 use Rattle.dicuts.specs.Shores.{Ranged}
 use Rattle.columns.specs.Columns.{Ends, Columns, flagged}

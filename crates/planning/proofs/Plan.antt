@@ -13,7 +13,7 @@ use Rattle.laws.specs.Finite.{sum-below}
 use Rattle.laws.proofs.Booleans.{cond-true, cond-false, or-false-l, or-false-r}
 use Rattle.hall.specs.Hall.{Hall, count}
 use Rattle.hall.specs.File.{hall-in, hall-refusal, Refusal, refusal}
-use Rattle.hall.specs.Plan.{First, total, levels}
+use Rattle.hall.specs.Plan.{First}
 use Rattle.dicuts.specs.Shores.{once}
 use Rattle.columns.specs.Columns.{flagged, Ends, Arcs}
 use Rattle.adjacency.proofs.Arcs.{arcs-ext}

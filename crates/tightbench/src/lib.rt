@@ -1,6 +1,5 @@
 // Tight neighbourhoods for a program that times them: all of a hall's at once, and one by the public call.
 ghost use mathlib.Core.Path.{_≡_};
-ghost use Prim.Native.Nat.{ℕ};
 ghost use Rattle.hall.specs.Hall.{Hall};
 ghost use Rattle.dicuts.specs.Shores.{Ranged, Joining, once};
 ghost use Rattle.columns.specs.Columns.{Ends, Columns, Neighbourhoods, flagged};

@@ -33,7 +33,7 @@ use denote.Laws.{Is, shows}
 use denote.Memory.{pointee}
 use denote.Plain.{uint-makes, uint-vals, uint-tells}
 use denote.Builtin.{usize}
-use denote.Ref.{RefT, now}
+use denote.Ref.{RefT}
 use denote.Signature.{plain}
 use denote.Slice.{sliceTy, sliceVal, MutSlice, Room, heres, codedHoleys, at-slice, slice-vals, mut-slice-tells}
 use denote.Lend.{Held}

@@ -6,7 +6,7 @@ use Prim.Native.Nat.{ℕ}
 use native.Mathlib.Omega.{arith}
 use lib.Dec.{eqb}
 use borrow.Author.Tests.{not-true, not-false}
-use Rattle.hall.specs.Hall.{is-choice, ascends-from, count}
+use Rattle.hall.specs.Hall.{is-choice, ascends-from}
 use Rattle.hall.specs.File.{hall-in, hall-refusal, Refusal, refusal}
 use Rattle.hallfile.specs.declared.HallRecord.{HallRecord}
 use Rattle.refusals.specs.Kinds.{refusal-of}
