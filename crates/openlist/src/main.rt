@@ -10,5 +10,5 @@ fn main() {
         return;
     }
     let size = read.size;
-    output::print_list(&file[..size]);
+    report::print_list(&file[..size]);
 }

@@ -1,12 +1,13 @@
--- Lists of which the first places are filled and the others are as they were. Assumes nothing.
+-- Lists of which the first places are filled and the others are as they were, and the places of listed cuts in them. Assumes nothing.
 use mathlib.Core.Path.{_≡_, refl, sym, ap, _∙_}
-use mathlib.Core.List.{List, _++_}
+use mathlib.Core.List.{List, [], _∷_, _++_}
 use Prim.Native.Nat.{ℕ, zero, suc, _+_, _-_, _<_, _≤_}
+use native.Mathlib.Nat.{add-zero, zero-add, add-suc, suc-add, not-suc-le-zero, le-of-suc-le-suc}
 use native.Mathlib.Omega.{arith}
 use lib.Dec.{ltb}
 use lib.IntN.{ℤ, pos}
-use lib.ListN.{length, getD, drop, length-append, length-drop, take-append-drop, List·getD-append}
-use lib.Seq.{ext-getD, getD-append-add, getD-drop}
+use lib.ListN.{length, getD, take, drop, length-append, length-drop, take-append-drop, List·getD-append}
+use lib.Seq.{ext-getD, getD-append-add, getD-drop, take-at}
 use borrow.Author.Tests.{ltb-true, ltb-false}
 use Rattle.laws.proofs.Booleans.{by-bool}
 use Rattle.hall.specs.Hall.{Hall}
@@ -38,58 +39,74 @@ module _ {A : Type 0} (z : A) where
       ext-getD z (drop n xs) (drop n old) (omega (arith, same, length-drop n xs, length-drop n old))
       (λ i l. getD-drop n xs i z ∙ rest (n + i) (omega arith) ∙ sym (getD-drop n old i z))
 
-zero-add-is : (k : ℕ) → 0 + k ≡ k
-zero-add-is k = omega arith
+-- the first places of a list that was filled from the front
+module _ {A : Type 0} where
+  pub front-fits : (new old xs : List A) (n : ℕ) → n ≡ length new → xs ≡ new ++ drop (length new) old → n ≤ length xs
+  front-fits new old xs n e is = omega (arith, ap length is, length-append new (drop (length new) old))
 
--- cuts in two columns, column by column
+  pub front-are : (new old xs : List A) (n : ℕ) → n ≡ length new → xs ≡ new ++ drop (length new) old → take n xs ≡ new
+  front-are new old xs n e is = ap (take n) is ∙ take-at new (drop (length new) old) n (sym e)
+
+-- the shores and the weights of listed cuts, place by place
+pub shores-length : (ks : List Cut) → length (shores ks) ≡ length ks
+unfolding shores
+shores-length [] = refl
+shores-length (c ∷ ks) = ap suc (shores-length ks)
+
+pub weights-length : (ks : List Cut) → length (weights ks) ≡ length ks
+unfolding weights
+weights-length [] = refl
+weights-length (c ∷ ks) = ap suc (weights-length ks)
+
+pub shore-at : (ks : List Cut) (i : ℕ) → i < length ks → getD (shores ks) i 0 ≡ getD ks i (cut 0 0) .shore
+unfolding shores
+shore-at [] i h = absurd (not-suc-le-zero h)
+shore-at (c ∷ ks) zero h = refl
+shore-at (c ∷ ks) (suc i) h = shore-at ks i (le-of-suc-le-suc h)
+
+pub weight-at : (ks : List Cut) (i : ℕ) → i < length ks → getD (weights ks) i 0 ≡ getD ks i (cut 0 0) .weight
+unfolding weights
+weight-at [] i h = absurd (not-suc-le-zero h)
+weight-at (c ∷ ks) zero h = refl
+weight-at (c ∷ ks) (suc i) h = weight-at ks i (le-of-suc-le-suc h)
+
+-- the cuts of two columns, place by place
 module _ (S W : ℕ → ℕ) where
-  pub shores-length : (k i : ℕ) → length (shores (cuts-in k i S W)) ≡ k
-  unfolding shores cuts-in
-  shores-length zero i = refl
-  shores-length (suc k) i = ap suc (shores-length k (suc i))
-
-  pub weights-length : (k i : ℕ) → length (weights (cuts-in k i S W)) ≡ k
-  unfolding weights cuts-in
-  weights-length zero i = refl
-  weights-length (suc k) i = ap suc (weights-length k (suc i))
-
-  pub cuts-length : (k i : ℕ) → length (cuts-in k i S W) ≡ k
+  cuts-length : (k i : ℕ) → length (cuts-in k i S W) ≡ k
   unfolding cuts-in
   cuts-length zero i = refl
   cuts-length (suc k) i = ap suc (cuts-length k (suc i))
 
-  shores-at : (k i j : ℕ) → j < k → getD (shores (cuts-in k i S W)) j 0 ≡ S (i + j)
-  unfolding shores cuts-in cut
-  shores-at zero i j h = absurd (omega arith)
-  shores-at (suc k) i zero h = let e : i + 0 ≡ i = omega arith in ap S (sym e)
-  shores-at (suc k) i (suc j) h = let e : suc i + j ≡ i + suc j = omega arith in shores-at k (suc i) j (omega arith) ∙ ap S e
-
-  weights-at : (k i j : ℕ) → j < k → getD (weights (cuts-in k i S W)) j 0 ≡ W (i + j)
-  unfolding weights cuts-in cut
-  weights-at zero i j h = absurd (omega arith)
-  weights-at (suc k) i zero h = let e : i + 0 ≡ i = omega arith in ap W (sym e)
-  weights-at (suc k) i (suc j) h = let e : suc i + j ≡ i + suc j = omega arith in weights-at k (suc i) j (omega arith) ∙ ap W e
+  cuts-at : (k i j : ℕ) → j < k → getD (cuts-in k i S W) j (cut 0 0) ≡ cut (S (i + j)) (W (i + j))
+  unfolding cuts-in
+  cuts-at zero i j h = absurd (not-suc-le-zero h)
+  cuts-at (suc k) i zero h = ap (λ (m : ℕ). cut (S m) (W m)) (sym (add-zero i))
+  cuts-at (suc k) i (suc j) h = cuts-at k (suc i) j (le-of-suc-le-suc h) ∙ ap (λ (m : ℕ). cut (S m) (W m)) (suc-add i j ∙ sym (add-suc i j))
 
 module _ (ks : List Cut) (b q : List ℕ) (count : ℕ) (y z : List ℕ) (filled : Filled-with ks b q count y z) where
   pub cuts-count : length ks ≡ count
   cuts-count = ap length (sym (filled .cuts-are)) ∙ cuts-length (place-of y) (place-of z) count 0
 
+  -- each listed cut, at its place of the two columns
+  cut-there : (k : ℕ) → k < count → getD ks k (cut 0 0) ≡ cut (place-of y k) (place-of z k)
+  cut-there k l =
+      ap (λ (cs : List Cut). getD cs k (cut 0 0)) (sym (filled .cuts-are)) ∙ cuts-at (place-of y) (place-of z) count 0 k l
+      ∙ ap (λ (m : ℕ). cut (place-of y m) (place-of z m)) (zero-add k)
+
   pub shores-front : 125 ≤ length b → y ≡ in-front (shores ks) b
-  unfolding in-front
+  unfolding in-front cut
   shores-front room =
-      let same : shores ks ≡ shores (cuts-in count 0 (place-of y) (place-of z)) = ap shores (sym (filled .cuts-are)) in
-      let long : length (shores ks) ≡ count = ap length same ∙ shores-length (place-of y) (place-of z) count 0 in
+      let long : length (shores ks) ≡ count = shores-length ks ∙ cuts-count in
       front-is 0 (shores ks) b y (omega (arith, filled .few)) (filled .shores-size)
-      (λ k l. sym (ap (λ (s : List ℕ). getD s k 0) same ∙ shores-at (place-of y) (place-of z) count 0 k (omega arith) ∙ ap (place-of y) (zero-add-is k)))
+      (λ k l. sym (shore-at ks k (omega (arith, cuts-count)) ∙ ap (λ (c : Cut). c .shore) (cut-there k (omega arith))))
       (λ k l. filled .shores-rest k (omega arith))
 
   pub weights-front : 125 ≤ length q → z ≡ in-front (weights ks) q
-  unfolding in-front
+  unfolding in-front cut
   weights-front room =
-      let same : weights ks ≡ weights (cuts-in count 0 (place-of y) (place-of z)) = ap weights (sym (filled .cuts-are)) in
-      let long : length (weights ks) ≡ count = ap length same ∙ weights-length (place-of y) (place-of z) count 0 in
+      let long : length (weights ks) ≡ count = weights-length ks ∙ cuts-count in
       front-is 0 (weights ks) q z (omega (arith, filled .few)) (filled .weights-size)
-      (λ k l. sym (ap (λ (s : List ℕ). getD s k 0) same ∙ weights-at (place-of y) (place-of z) count 0 k (omega arith) ∙ ap (place-of z) (zero-add-is k)))
+      (λ k l. sym (weight-at ks k (omega (arith, cuts-count)) ∙ ap (λ (c : Cut). c .weight) (cut-there k (omega arith))))
       (λ k l. filled .weights-rest k (omega arith))
 
 pub levels-front : (h : Hall) (ks : List Cut) (d w : List ℤ) → h .n ≤ length d → Levelled ks (h .n) d w → w ≡ levels h ks ++ drop (h .n) d

@@ -1,5 +1,4 @@
-// Planning: the first joining choice with its cuts and levels, into lent lists. The promises are in specs/Plan.antt, and in
-// specs/Lent.antt for cuts as structs.
+// Planning: the first joining choice with its cuts and levels, into lent lists of numbers. The promise is in specs/Plan.antt.
 ghost use mathlib.Core.Path.{_≡_};
 ghost use mathlib.Core.Bool.{true, _||_};
 ghost use mathlib.Core.List.{List};
@@ -9,9 +8,6 @@ ghost use lib.ListN.{length};
 ghost use Rattle.hall.specs.File.{hall-in, hall-refusal, refusal};
 ghost use Rattle.hallfile.specs.Record.{record-of};
 ghost use Rattle.planning.specs.Plan.{unplanned, Plan-as, Plan-says};
-ghost use Rattle.planning.specs.Lent.{Lent-says, Outlined};
-use cutlist::Cut;
-use cutlist::Lists;
 use hallfile::HallRecord;
 use refusals::Kind;
 
@@ -25,7 +21,7 @@ pub struct Planned {
 }
 
 impl Planned {
-    fn refused(refusal: Kind) -> Planned
+    pub fn refused(refusal: Kind) -> Planned
         ensures { λ r. ⌜ r ≡ unplanned refusal ⌝ }
     {
         Planned {
@@ -118,46 +114,4 @@ pub fn plan_core(
     }
     let hall = reading.hall;
     plan_hall(hall, rows, shores, weights, levels)
-}
-
-// A plan's reply, and its cuts as two number lists.
-struct Outline {
-    planned: Planned,
-    count: usize,
-    lists: Lists,
-}
-
-// The plan, but for the cuts, which are to go into a list of so many places.
-fn plan_outline(file: &[u8], rows: &mut [u32], room: usize, levels: &mut [i32]) -> Outline
-    ensures { λ r. ⌜ Outlined (now (file .entry)) room r (now (rows .entry)) (now (rows .exit)) (now (levels .entry)) (now (levels .exit)) ⌝ }
-{
-    let mut shores = [0u64; 125];
-    let mut weights = [0u32; 125];
-    if room < 125 {
-        let lists = Lists { shores, weights };
-        return Outline {
-            planned: Planned::refused(Kind::ListShort),
-            count: 0,
-            lists,
-        };
-    }
-    let planned = plan_core(file, rows, &mut shores, &mut weights, levels);
-    let lists = Lists { shores, weights };
-    let cuts = planned.cuts;
-    Outline {
-        planned,
-        count: cuts as usize,
-        lists,
-    }
-}
-
-// The first joining choice by total, row count and dictionary order, with cuts and levels beside it: into the lent lists,
-// from the front. Refusal 1 where a list is too short, then 2 to 9.
-pub fn plan_lanes(file: &[u8], rows: &mut [u32], cuts: &mut [Cut], levels: &mut [i32]) -> Planned
-    ensures { λ r. ⌜ Lent-says (now (file .entry)) r (now (rows .entry)) (now (rows .exit)) (now (cuts .entry)) (now (cuts .exit))
-        (now (levels .entry)) (now (levels .exit)) ⌝ }
-{
-    let outline = plan_outline(file, rows, cuts.len(), levels);
-    cutlist::write_cuts(cuts, outline.lists, outline.count);
-    outline.planned
 }

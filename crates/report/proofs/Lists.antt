@@ -7,7 +7,6 @@ use native.Mathlib.Omega.{arith}
 use lib.Dec.{eqb}
 use lib.IntN.{ℤ}
 use lib.ListN.{length, take, drop, length-append}
-use lib.Seq.{take-at}
 use borrow.Author.Tests.{eqb-true}
 use Rattle.laws.proofs.Booleans.{clash}
 use Rattle.hall.specs.Hall.{Hall, count}
@@ -18,7 +17,7 @@ use Rattle.refusals.specs.Kinds.{refusal-of}
 use Rattle.hallfile.specs.Record.{record-of}
 use Rattle.planning.specs.declared.Planned.{Planned}
 use Rattle.planning.specs.Plan.{plan-refusal, shores, weights, in-front, Filled, Turned, Plan-as, Plan-says}
-use Rattle.planning.proofs.Lent.{shores-length, weights-length}
+use Rattle.planning.proofs.Fronts.{front-fits, front-are, shores-length, weights-length}
 use Rattle.lines.specs.Placed.{In-front}
 use Rattle.printing.specs.Printed.{printed-plan, printed-refusal}
 use Rattle.printing.specs.Recorded.{hall-of, paired, Printable}
@@ -76,14 +75,6 @@ pub record Lists (h : Hall) (r : Planned) (x y z : List ℕ) (w : List ℤ) : Ty
   pub weights-are : take (r .cuts) z ≡ weights cuts
   pub levels-fit : r .levels ≤ length w
   pub levels-are : take (r .levels) w ≡ levels h cuts
-
--- the first places of a list that was filled from the front
-module _ {A : Type 0} where
-  front-fits : (new old xs : List A) (n : ℕ) → n ≡ length new → xs ≡ new ++ drop (length new) old → n ≤ length xs
-  front-fits new old xs n e is = omega (arith, ap length is, length-append new (drop (length new) old))
-
-  front-are : (new old xs : List A) (n : ℕ) → n ≡ length new → xs ≡ new ++ drop (length new) old → take n xs ≡ new
-  front-are new old xs n e is = ap (take n) is ∙ take-at new (drop (length new) old) n (sym e)
 
 module _ (h : Hall) (r : Planned) (a x b y q z : List ℕ) (d w : List ℤ) where
   plan-lists : Plan-as 0 (refusal 0 0) h r a x b y q z d w → Lists h r x y z w

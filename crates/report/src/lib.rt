@@ -2,6 +2,7 @@
 ghost use Prim.Native.Nat.{_≤_};
 ghost use lib.ListN.{length};
 ghost use Rattle.report.specs.Report.{Report-says};
+use libc::STDOUT_FILENO;
 
 // The list at the front of the buffer; gives its length.
 pub fn report(file: &[u8], out: &mut [u8]) -> usize
@@ -32,4 +33,11 @@ pub fn report(file: &[u8], out: &mut [u8]) -> usize
         &weights[..cuts],
         &levels[..n],
     )
+}
+
+// The list to standard output.
+pub fn print_list(file: &[u8]) {
+    let mut out = io::large_buffer();
+    let length = report(file, &mut out);
+    io::write_all(STDOUT_FILENO, &out[..length]);
 }

@@ -11,7 +11,7 @@ fn print_file(name: &[u8]) {
     io::write_all(STDOUT_FILENO, name);
     io::write_all(STDOUT_FILENO, b":\n");
     let size = read.size;
-    output::print_list(&file[..size]);
+    report::print_list(&file[..size]);
 }
 
 fn print_argument(i: usize)

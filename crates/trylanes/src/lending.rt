@@ -19,6 +19,6 @@ pub fn plan(
 ) -> Lanes
     requires { ⌜ room ≤ 126 ⌝ }
 {
-    let planned = planning::plan_lanes(file, rows, &mut cuts[..room], levels);
+    let planned = lanes::plan_lanes(file, rows, &mut cuts[..room], levels);
     Lanes { planned, cuts }
 }

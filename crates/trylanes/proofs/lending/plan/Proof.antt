@@ -51,13 +51,13 @@ use Rattle.cutlist.specs.declared.Cut.{Cut}
 use Rattle.cutlist.proofs.Cut as C
 use Rattle.cutlist.proofs.Cut.Laws as C′
 use Rattle.planning.specs.declared.Planned.{Planned}
-use Rattle.planning.specs.Lent.{Lent-says}
 use Rattle.planning.proofs.Planned as P
 use Rattle.planning.proofs.Planned.Laws as P′
-use Rattle.planning.proofs.plan_lanes as plan-lanes
-use Rattle.planning.proofs.plan_lanes.Symbol as plan-lanes-def
-use Rattle.planning.proofs.plan_lanes.Symbol.{name as #planning·plan-lanes}
-use Rattle.planning.proofs.plan_lanes.Met as plan-lanes-thm
+use Rattle.lanes.specs.Lent.{Lent-says}
+use Rattle.lanes.proofs.plan_lanes as plan-lanes
+use Rattle.lanes.proofs.plan_lanes.Symbol as plan-lanes-def
+use Rattle.lanes.proofs.plan_lanes.Symbol.{name as #lanes·plan-lanes}
+use Rattle.lanes.proofs.plan_lanes.Met as plan-lanes-thm
 use Rattle.trylanes.specs.declared.lending.Lanes.{Lanes}
 use Rattle.trylanes.proofs.Lent.{After, Local, lends-part, part-back}
 use Rattle.trylanes.proofs.lending.Lanes as N
@@ -223,7 +223,7 @@ module _ {M : Type 1} (𝓤 : URA M) (H : Heap 𝓤) (A : Atoms 𝓤) (W : Given
     typed-back : (cs : List Cut) (w : Val) → Is All (back cs) (w ∷ []) → Holds (hasTy (tyArray C′.mir 126) (v-cuts (back cs))) × WT (v-cuts (back cs))
     typed-back cs w is = subst (λ (v : Val). Holds (hasTy (tyArray C′.mir 126) v) × WT v) (is-cut-list (back cs) w is) (array-lawful 𝓤 H A W R (LL.lawful C.the-type C′.the-laws 𝓤 H A W) 126 .typed (back cs) (w ∷ []) is .0)
 
-    module _ (Ca : Calls 𝓤 H) (Λ : Loops 𝓤 H) (fm : FmC 𝓤 H (W .laws) Ca) (known : Triple 𝓤 (Ca #planning·plan-lanes) (Plans 𝓤 H A mem′ run))
+    module _ (Ca : Calls 𝓤 H) (Λ : Loops 𝓤 H) (fm : FmC 𝓤 H (W .laws) Ca) (known : Triple 𝓤 (Ca #lanes·plan-lanes) (Plans 𝓤 H A mem′ run))
         (fits₀ : length (file .now) < 2 ^ 64) (fits₁ : length (rows .now) < 2 ^ 64) (fits₃ : length (levels .now) < 2 ^ 64) where
       walk : ent 𝓤 (onEntry 𝓤 H A plan.signature κs qs a vals) (WpFn 𝓤 H Ca Λ code.function (v₀ ∷ v₁ ∷ array xs ∷ vint w64 room ∷ v₃ ∷ []) Post)
       walk =
@@ -271,7 +271,7 @@ module _ {M : Type 1} (𝓤 : URA M) (H : Heap 𝓤) (A : Atoms 𝓤) (W : Given
           keep ! (0 ∷ 1 ∷ 2 ∷ 5 ∷ 3 ∷ []) $ by ! (exits r u (back (k .1 .1 .0)) w is is-back (k .1 .0) (k .1 .1 .1 .0) e₁ e₃)))))))))))))))))))))))))))
 
 module _ {M : Type 1} (𝓤 : URA M) (H : Heap 𝓤) (A : Atoms 𝓤) (W : Given 𝓤 H A) (mem′ : Memory → SProp 𝓤) (run : Routine → Fun 𝓤) (𝓣 : Tables 𝓤 H)
-    (known : Triple 𝓤 (𝓣 .C #planning·plan-lanes) (Plans 𝓤 H A mem′ run)) where
+    (known : Triple 𝓤 (𝓣 .C #lanes·plan-lanes) (Plans 𝓤 H A mem′ run)) where
   plan-walks : Walks 𝓤 H A plan.ended stayed (WpFn 𝓤 H (𝓣 .C) (𝓣 .Λ) code.function) (plan.clauses 𝓤 H A mem′ run)
   plan-walks = walked 𝓤 H A plan.ended stayed (plan.clauses 𝓤 H A mem′ run) (WpFn 𝓤 H (𝓣 .C) (𝓣 .Λ) code.function)
       (λ κs. (slice-vals, (slice-vals, (array-vals (LL.vals C.the-type C′.the-laws), (uint-vals w64, (slice-vals, tt))))))
@@ -291,4 +291,4 @@ plan-spec 𝓤 H 𝓜 𝓖 𝓡 =
     entered 𝓤 H (tripleOf 𝓤 H (𝓖 .A) plan.signature (plan.spec 𝓤 H (𝓖 .A) (𝓜 .mem) (𝓡 .run)))
     (tables 𝓤 H 𝓜 𝓡 code.env .C) (tables 𝓤 H 𝓜 𝓡 code.env .Λ) #trylanes·lending·plan code.function (code.unfolded 𝓤 H 𝓜 𝓡)
     (plan-meets 𝓤 H (𝓖 .A) (givenOf 𝓤 H 𝓜 𝓖) (𝓜 .mem) (𝓡 .run) (tablesOf 𝓤 H 𝓜 (tables 𝓤 H 𝓜 𝓡 code.env))
-    (cited 𝓤 H (Plans 𝓤 H (𝓖 .A) (𝓜 .mem) (𝓡 .run)) 𝓜 𝓡 code.env #planning·plan-lanes plan-lanes-def.routine code.calls-planning·plan-lanes (plan-lanes-thm.met 𝓤 H 𝓜 𝓖 𝓡)))
+    (cited 𝓤 H (Plans 𝓤 H (𝓖 .A) (𝓜 .mem) (𝓡 .run)) 𝓜 𝓡 code.env #lanes·plan-lanes plan-lanes-def.routine code.calls-lanes·plan-lanes (plan-lanes-thm.met 𝓤 H 𝓜 𝓖 𝓡)))

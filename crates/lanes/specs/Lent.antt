@@ -13,9 +13,9 @@ use Rattle.hall.specs.Plan.{First, Beside, total, levels}
 use Rattle.refusals.specs.Kinds.{refusal-of}
 use Rattle.cutlist.specs.declared.Cut.{Cut}
 use Rattle.cutlist.specs.Cuts.{lent, cuts-from}
 use Rattle.planning.specs.declared.Planned.{Planned}
-use Rattle.planning.specs.declared.Outline.{Outline}
 use Rattle.planning.specs.Plan.{in-front}
+use Rattle.lanes.specs.declared.Outline.{Outline}
 
 -- 1 where a lent list is too short, then the hall's
 unfoldable pub lent-refusal : List ℕ → (rows cuts levels : ℕ) → Refusal

@@ -3,11 +3,11 @@ use mathlib.Core.Path.{_≡_, refl, sym, ap, ap₂, _∙_, subst}
 use mathlib.Core.Bool.{Bool, _||_, cond}
 use mathlib.Core.List.{List, [], _∷_, _++_, map}
 use Prim.Native.Nat.{ℕ, zero, suc, _+_, _≤_, _<_}
-use native.Mathlib.Nat.{add-zero, zero-add, add-suc, suc-add, le-trans, not-suc-le-zero, le-of-suc-le-suc}
+use native.Mathlib.Nat.{add-zero, zero-add, add-suc, suc-add, le-trans}
 use native.Mathlib.Omega.{arith}
 use lib.Dec.{ltb}
 use lib.IntN.{ℤ}
-use lib.ListN.{length, getD, take, drop, length-append, List·getD-append}
+use lib.ListN.{length, getD, take, drop, List·getD-append}
 use borrow.Author.Tests.{lt-ltb, le-ltb}
 use Rattle.laws.proofs.Booleans.{or-l, or-r, cond-true}
 use Rattle.hall.specs.Hall.{Hall}
@@ -19,9 +19,10 @@ use Rattle.cutlist.specs.declared.Cut.{Cut}
 use Rattle.cutlist.specs.declared.Lists.{Lists}
 use Rattle.cutlist.specs.Cuts.{lent-cut, lent, listed-cut, cuts-from, cuts-of}
 use Rattle.cutlist.proofs.Lent.{cuts-in-front}
 use Rattle.planning.specs.declared.Planned.{Planned}
 use Rattle.planning.specs.Plan.{unplanned, plan-refusal, shores, weights, in-front, Filled, Turned, Plan-as, Plan-says}
-use Rattle.planning.specs.Lent.{lent-refusal, Lent-filled, Lent-turned, Lent-as, Lent-says, Outlined}
+use Rattle.planning.proofs.Fronts.{front-fits, shores-length, weights-length, shore-at, weight-at}
+use Rattle.lanes.specs.Lent.{lent-refusal, Lent-filled, Lent-turned, Lent-as, Lent-says, Outlined}
 
 -- the cuts of two lists from a place on, where each is the one listed there
 cuts-are : (l : Lists) (k : ℕ) (ks : List plan.Cut) → ((i : ℕ) → i < length ks → listed-cut l (k + i) ≡ lent (getD ks i (plan.cut 0 0))) → cuts-from l k (length ks) ≡ map lent ks
@@ -29,28 +30,6 @@ unfolding cuts-from
 cuts-are l k [] at = refl
 cuts-are l k (c ∷ ks) at =
     ap₂ _∷_ (ap (listed-cut l) (sym (add-zero k)) ∙ at 0 (omega arith)) (cuts-are l (suc k) ks (λ i h. ap (listed-cut l) (suc-add k i ∙ sym (add-suc k i)) ∙ at (suc i) (omega (arith, h))))
-
-shore-at : (ks : List plan.Cut) (i : ℕ) → i < length ks → getD (shores ks) i 0 ≡ getD ks i (plan.cut 0 0) .shore
-unfolding shores
-shore-at [] i h = absurd (not-suc-le-zero h)
-shore-at (c ∷ ks) zero h = refl
-shore-at (c ∷ ks) (suc i) h = shore-at ks i (le-of-suc-le-suc h)
-
-weight-at : (ks : List plan.Cut) (i : ℕ) → i < length ks → getD (weights ks) i 0 ≡ getD ks i (plan.cut 0 0) .weight
-unfolding weights
-weight-at [] i h = absurd (not-suc-le-zero h)
-weight-at (c ∷ ks) zero h = refl
-weight-at (c ∷ ks) (suc i) h = weight-at ks i (le-of-suc-le-suc h)
-
-pub shores-length : (ks : List plan.Cut) → length (shores ks) ≡ length ks
-unfolding shores
-shores-length [] = refl
-shores-length (c ∷ ks) = ap suc (shores-length ks)
-
-pub weights-length : (ks : List plan.Cut) → length (weights ks) ≡ length ks
-unfolding weights
-weights-length [] = refl
-weights-length (c ∷ ks) = ap suc (weights-length ks)
 
 -- a place in front of a list
 spot : (new old xs : List ℕ) (i : ℕ) → xs ≡ in-front new old → i < length new → getD xs (0 + i) 0 ≡ getD new i 0
@@ -62,10 +41,6 @@ front-cuts ks y z b q e f = cuts-are (record { shores = y; weights = z }) 0 ks (
     ap₂ lent-cut
     (spot (shores ks) b y i e (omega (arith, h, shores-length ks)) ∙ shore-at ks i h)
     (spot (weights ks) q z i f (omega (arith, h, weights-length ks)) ∙ weight-at ks i h))
-
-front-fits : (new old xs : List ℕ) → xs ≡ in-front new old → length new ≤ length xs
-unfolding in-front
-front-fits new old xs e = omega (arith, ap length e, length-append new (drop (length new) old))
 
 module _ (bs a : List ℕ) (d : List ℤ) where
   too-short : (b : List Cut) → length b < 125 → lent-refusal bs (length a) (length b) (length d) ≡ refusal 1 0
@@ -92,8 +67,8 @@ module _ (bs a : List ℕ) (d : List ℤ) where
     lists = record { shores = y; weights = z }
 
     counted : (n : ℕ) (f : Refusal) (h : Hall) → Plan-as n f h p a x b y q z d w → p .cuts ≤ 125
-    unfolding Plan-as Filled Turned
-    counted zero f h (c, ks, _, _, (_, _, k-is, _, _, _, y-is, _, _)) = omega (arith, k-is, shores-length ks, front-fits (shores ks) b y y-is, y-size)
+    unfolding Plan-as Filled Turned in-front
+    counted zero f h (c, ks, _, _, (_, _, k-is, _, _, _, y-is, _, _)) = omega (arith, front-fits (shores ks) b y (p .cuts) (k-is ∙ sym (shores-length ks)) y-is, y-size)
     counted (suc n) f h (_, _, none, _, _, _, _, _, _) = omega (arith, none)
 
     lent-as : (n : ℕ) (f : Refusal) (h : Hall) (cs : List Cut) → Plan-as n f h p a x b y q z d w → Lent-as n f h p a x cs (cuts-from lists 0 (p .cuts) ++ drop (p .cuts) cs) d w

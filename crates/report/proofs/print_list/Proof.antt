@@ -1,12 +1,12 @@
--- `output::print_list` is safe and ends: the list that `report` writes fits its buffer. Assumes nothing.
+-- `report::print_list` is safe and ends: the list that `report` writes fits its buffer. Assumes nothing.
 use mathlib.Core.Path.{sym}
 use Prim.Native.Nat.{_≤_}
 use lib.ListN.{length}
 use lib.Seq.{length-take-le}
 use Rattle.report.proofs.Lists.{report-fits}
 use borrow.Author.Needs.{needs}
-use Rattle.output.proofs.print_list.Statement.{statement}
-use Rattle.output.proofs.print_list.Tie as tie
+use Rattle.report.proofs.print_list.Statement.{statement}
+use Rattle.report.proofs.print_list.Tie as tie
 
 -- the list is no longer than the buffer after `report`
 fits : (c : tie.After-report) → c .report .result ≤ length (c .report .last .1 .0)

@@ -1,4 +1,4 @@
--- `planning::plan_lanes` meets its contract: a walk of its MIR, by hand. It calls `plan_outline` on the file, the lists of rows and levels and the number of places for cuts, and `write_cuts` on the list of cuts and what the first call returned. All that the proof knows of either is that it meets its contract.
+-- `lanes::plan_lanes` meets its contract: a walk of its MIR, by hand. It calls `plan_outline` on the file, the lists of rows and levels and the number of places for cuts, and `write_cuts` on the list of cuts and what the first call returned. All that the proof knows of either is that it meets its contract.
 -- The file's borrow is Copy, so what it owns is had twice: once for the call, and once for the exit. Each other list is given to a callee for good, which says what it holds at the end.
 -- Assumes nothing.
 use mathlib.Core.Path.{_≡_, refl, sym, ap, subst}
@@ -49,20 +49,20 @@ use Rattle.cutlist.proofs.write_cuts as write-cuts
 use Rattle.cutlist.proofs.write_cuts.Symbol as write-cuts-def
 use Rattle.cutlist.proofs.write_cuts.Symbol.{name as #cutlist·write-cuts}
 use Rattle.cutlist.proofs.write_cuts.Met as write-cuts-thm
-use Rattle.planning.specs.declared.Outline.{Outline}
-use Rattle.planning.specs.Lent.{Lent-says, Outlined}
 use Rattle.planning.proofs.Planned as P
 use Rattle.planning.proofs.Planned.Laws as P′
-use Rattle.planning.proofs.Outline as O
-use Rattle.planning.proofs.Outline.Laws as O′
-use Rattle.planning.proofs.plan_outline as plan-outline
-use Rattle.planning.proofs.plan_outline.Symbol as plan-outline-def
-use Rattle.planning.proofs.plan_outline.Symbol.{name as #planning·plan-outline}
-use Rattle.planning.proofs.plan_outline.Met as plan-outline-thm
-use Rattle.planning.proofs.plan_lanes.Key.{name as #planning·plan-lanes}
-use Rattle.planning.proofs.plan_lanes as plan-lanes
-use Rattle.planning.proofs.plan_lanes.Statement as stated
-use Rattle.planning.proofs.plan_lanes.Code as code
+use Rattle.lanes.specs.declared.Outline.{Outline}
+use Rattle.lanes.specs.Lent.{Lent-says, Outlined}
+use Rattle.lanes.proofs.Outline as O
+use Rattle.lanes.proofs.Outline.Laws as O′
+use Rattle.lanes.proofs.plan_outline as plan-outline
+use Rattle.lanes.proofs.plan_outline.Symbol as plan-outline-def
+use Rattle.lanes.proofs.plan_outline.Symbol.{name as #lanes·plan-outline}
+use Rattle.lanes.proofs.plan_outline.Met as plan-outline-thm
+use Rattle.lanes.proofs.plan_lanes.Key.{name as #lanes·plan-lanes}
+use Rattle.lanes.proofs.plan_lanes as plan-lanes
+use Rattle.lanes.proofs.plan_lanes.Statement as stated
+use Rattle.lanes.proofs.plan_lanes.Code as code
 
 abbrev stayed : Stays (plan-lanes.ended .signature .params) (plan-lanes.ended .kept)
 stayed = (stay-none-slice (0 ∷ []) tt (plain (λ _. u8)) yes, (gave-slice (1 ∷ []) tt (plain (λ _. u32)), (gave-slice (2 ∷ []) tt (plain (λ _. C.the-row)), (gave-slice (3 ∷ []) tt (plain (λ _. i32)), tt))))
@@ -181,7 +181,7 @@ module _ {M : Type 1} (𝓤 : URA M) (H : Heap 𝓤) (A : Atoms 𝓤) (W : Given
           move ! (4 ∷ 0 ∷ []) $ fjoin ! $ move ! (3 ∷ 0 ∷ []) $ fjoin ! $ move ! (2 ∷ 0 ∷ []) $ fjoin ! $ move ! (1 ∷ 0 ∷ []) $ fjoin ! $
           owned ! P.the-row (Is P.the-row) (LL.makes P.the-type P′.the-plain 𝓤 H A) (r .planned) _ is-planned $ move ! (1 ∷ 0 ∷ []) $ done !
 
-    module _ (C : Calls 𝓤 H) (Λ : Loops 𝓤 H) (fm : FmC 𝓤 H (W .laws) C) (known-outline : Triple 𝓤 (C #planning·plan-outline) (Outlines 𝓤 H A mem run)) (known-write : Triple 𝓤 (C #cutlist·write-cuts) (Writes 𝓤 H A mem run))
+    module _ (C : Calls 𝓤 H) (Λ : Loops 𝓤 H) (fm : FmC 𝓤 H (W .laws) C) (known-outline : Triple 𝓤 (C #lanes·plan-outline) (Outlines 𝓤 H A mem run)) (known-write : Triple 𝓤 (C #cutlist·write-cuts) (Writes 𝓤 H A mem run))
         (fits₀ : length (file .now) < 2 ^ 64) (fits₁ : length (rows .now) < 2 ^ 64) (fits₃ : length (levels .now) < 2 ^ 64) where
       walk : ent 𝓤 (onEntry 𝓤 H A plan-lanes.signature κs qs a vals) (WpFn 𝓤 H C Λ code.function (v₀ ∷ v₁ ∷ v₂ ∷ v₃ ∷ []) Post)
       walk =
@@ -227,7 +227,7 @@ module _ {M : Type 1} (𝓤 : URA M) (H : Heap 𝓤) (A : Atoms 𝓤) (W : Given
           keep ! (1 ∷ 5 ∷ 4 ∷ 8 ∷ 2 ∷ 6 ∷ []) $ by ! (exits r u is (l .1 .0) (l .1 .1 .1 .0) e (k .0) f e₁ e₂ e₃))))))))))))))))))))))))))))
 
 module _ {M : Type 1} (𝓤 : URA M) (H : Heap 𝓤) (A : Atoms 𝓤) (W : Given 𝓤 H A) (mem : Memory → SProp 𝓤) (run : Routine → Fun 𝓤) (𝓣 : Tables 𝓤 H)
-    (known-outline : Triple 𝓤 (𝓣 .C #planning·plan-outline) (Outlines 𝓤 H A mem run)) (known-write : Triple 𝓤 (𝓣 .C #cutlist·write-cuts) (Writes 𝓤 H A mem run)) where
+    (known-outline : Triple 𝓤 (𝓣 .C #lanes·plan-outline) (Outlines 𝓤 H A mem run)) (known-write : Triple 𝓤 (𝓣 .C #cutlist·write-cuts) (Writes 𝓤 H A mem run)) where
   plan-lanes-walks : Walks 𝓤 H A plan-lanes.ended stayed (WpFn 𝓤 H (𝓣 .C) (𝓣 .Λ) code.function) (plan-lanes.clauses 𝓤 H A mem run)
   plan-lanes-walks = walked 𝓤 H A plan-lanes.ended stayed (plan-lanes.clauses 𝓤 H A mem run) (WpFn 𝓤 H (𝓣 .C) (𝓣 .Λ) code.function)
       (λ κs. (slice-vals, (slice-vals, (slice-vals, (slice-vals, tt)))))
@@ -245,7 +245,7 @@ pub plan-lanes-spec : {M : Type 1} → stated.statement M
 unfolding code.routine tablesOf
 plan-lanes-spec 𝓤 H 𝓜 𝓖 𝓡 =
     entered 𝓤 H (tripleOf 𝓤 H (𝓖 .A) plan-lanes.signature (plan-lanes.spec 𝓤 H (𝓖 .A) (𝓜 .mem) (𝓡 .run)))
-    (tables 𝓤 H 𝓜 𝓡 code.env .C) (tables 𝓤 H 𝓜 𝓡 code.env .Λ) #planning·plan-lanes code.function (code.unfolded 𝓤 H 𝓜 𝓡)
+    (tables 𝓤 H 𝓜 𝓡 code.env .C) (tables 𝓤 H 𝓜 𝓡 code.env .Λ) #lanes·plan-lanes code.function (code.unfolded 𝓤 H 𝓜 𝓡)
     (plan-lanes-meets 𝓤 H (𝓖 .A) (givenOf 𝓤 H 𝓜 𝓖) (𝓜 .mem) (𝓡 .run) (tablesOf 𝓤 H 𝓜 (tables 𝓤 H 𝓜 𝓡 code.env))
-    (cited 𝓤 H (Outlines 𝓤 H (𝓖 .A) (𝓜 .mem) (𝓡 .run)) 𝓜 𝓡 code.env #planning·plan-outline plan-outline-def.routine code.calls-planning·plan-outline (plan-outline-thm.met 𝓤 H 𝓜 𝓖 𝓡))
+    (cited 𝓤 H (Outlines 𝓤 H (𝓖 .A) (𝓜 .mem) (𝓡 .run)) 𝓜 𝓡 code.env #lanes·plan-outline plan-outline-def.routine code.calls-lanes·plan-outline (plan-outline-thm.met 𝓤 H 𝓜 𝓖 𝓡))
     (cited 𝓤 H (Writes 𝓤 H (𝓖 .A) (𝓜 .mem) (𝓡 .run)) 𝓜 𝓡 code.env #cutlist·write-cuts write-cuts-def.routine code.calls-cutlist·write-cuts (write-cuts-thm.met 𝓤 H 𝓜 𝓖 𝓡)))

@@ -1,10 +1,10 @@
--- `planning::plan_outline` meets its contract: a plan into two arrays of its own, or refusal 1 where the list of cuts is too short. Assumes nothing.
+-- `lanes::plan_outline` meets its contract: a plan into two arrays of its own, or refusal 1 where the list of cuts is too short. Assumes nothing.
 use mathlib.Core.Path.{refl}
 use native.Mathlib.Omega.{arith}
 use borrow.Author.Needs.{needs}
-use Rattle.planning.proofs.Lent.{short-outlined, made-outlined}
-use Rattle.planning.proofs.plan_outline.Statement.{statement}
-use Rattle.planning.proofs.plan_outline.Tie as tie
+use Rattle.lanes.proofs.Lent.{short-outlined, made-outlined}
+use Rattle.lanes.proofs.plan_outline.Statement.{statement}
+use Rattle.lanes.proofs.plan_outline.Tie as tie
 
 -- the places: the core has planned, and the lent lists are back
 abbrev at-core : tie.After-levels → tie.After-plan-core
