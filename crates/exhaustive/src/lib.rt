@@ -1,98 +1,13 @@
-// The first joining choice of a small hall, by trying every choice against every directed cut.
-ghost use mathlib.Core.Path.{_≡_};
-ghost use Prim.Native.Nat.{_+_, _^_, _≤_, _<_};
+// Whether a choice is the first of a small hall that joins, by trying every choice against every directed cut.
+pub mod sets;
 
-// Up to 6 junctions and 10 rows. Row i + 1 runs between the junctions at place i, at the price there.
-pub struct Small {
-    pub n: usize,
-    pub count: usize,
-    pub from: [u8; 10],
-    pub to: [u8; 10],
-    pub price: [u8; 10],
-}
-
-// A choice, and whether it joins: its rows, ascending, then zeros.
-pub struct Choice {
-    pub joins: bool,
-    pub total: u32,
-    pub count: usize,
-    pub rows: [u32; 10],
-}
-
-// The rows that enter a set, bit i for row i + 1; not directed where a row leaves it.
-pub struct Cut {
-    pub directed: bool,
-    pub rows: u64,
-}
+ghost use Prim.Native.Nat.{_+_, _≤_, _<_};
+use sets::Cut;
+use smallhalls::Small;
 
 struct Cuts {
     count: usize,
     rows: [u64; 64],
-}
-
-// The set of one junction alone.
-pub fn single(j: u8) -> u64 {
-    match j {
-        1 => 1,
-        2 => 2,
-        3 => 4,
-        4 => 8,
-        5 => 16,
-        6 => 32,
-        _ => 0,
-    }
-}
-
-pub fn lies_in(j: u8, set: u64) -> bool {
-    set & single(j) != 0
-}
-
-fn wide(x: u8) -> u32
-    ensures { λ r. ⌜ r < 256 ⌝ }
-{
-    x as u32
-}
-
-// Two to the power k: how many sets k things have.
-fn subsets(k: usize) -> u64
-    requires { ⌜ k ≤ 10 ⌝ }
-    ensures { λ r. ⌜ (1 ≤ r) × (r ≤ 1024) × (k ≤ 6 → r ≤ 64) ⌝ }
-{
-    1 << k
-}
-
-// The set of all junctions.
-pub fn whole(n: usize) -> u64
-    requires { ⌜ n ≤ 6 ⌝ }
-    ensures { λ r. ⌜ r < 64 ⌝ }
-{
-    subsets(n) - 1
-}
-
-pub fn cut_of(hall: Small, set: u64) -> Cut
-    requires { ⌜ hall .count ≤ 10 ⌝ }
-{
-    let count = hall.count;
-    let mut rows: u64 = 0;
-    let mut i: usize = 0;
-    while i < count {
-        let starts_in = lies_in(hall.from[i], set);
-        let ends_in = lies_in(hall.to[i], set);
-        if starts_in & !ends_in {
-            return Cut {
-                directed: false,
-                rows: 0,
-            };
-        }
-        if ends_in & !starts_in {
-            rows = rows | (1 << i);
-        }
-        i += 1;
-    }
-    Cut {
-        directed: true,
-        rows,
-    }
 }
 
 fn with_cut(cuts: Cuts, cut: Cut) -> Cuts
@@ -114,27 +29,26 @@ fn cuts_of(hall: Small) -> Cuts
     requires { ⌜ (hall .n ≤ 6) × (hall .count ≤ 10) ⌝ }
     ensures { λ r. ⌜ r .count ≤ 64 ⌝ }
 {
-    let whole = whole(hall.n);
+    let whole = sets::whole(hall.n);
     let mut cuts = Cuts {
         count: 0,
         rows: [0; 64],
     };
     let mut set: u64 = 1;
     while set < whole {
-        cuts = with_cut(cuts, cut_of(hall, set));
+        cuts = with_cut(cuts, sets::cut_of(hall, set));
         set += 1;
     }
     cuts
 }
 
-// Whether a choice has a row of every cut; bit i stands for row i + 1.
-fn meets_all(cuts: Cuts, rows: u64) -> bool
-    requires { ⌜ cuts .count ≤ 64 ⌝ }
+// Whether a choice has a row of every cut.
+fn joins(cuts: &[u64; 64], count: usize, choice: u64) -> bool
+    requires { ⌜ count ≤ 64 ⌝ }
 {
-    let count = cuts.count;
     let mut k: usize = 0;
     while k < count {
-        if cuts.rows[k] & rows == 0 {
+        if cuts[k] & choice == 0 {
             return false;
         }
         k += 1;
@@ -142,100 +56,79 @@ fn meets_all(cuts: Cuts, rows: u64) -> bool
     true
 }
 
-// The choice, with the row where it is taken.
-fn with_row(choice: Choice, taken: bool, row: usize, price: u32) -> Choice
-    requires { ⌜ (choice .count < 10) × (choice .total < 2 ^ 16) × (row ≤ 10) × (price < 256) ⌝ }
-    ensures { λ r. ⌜ (r .count ≤ choice .count + 1) × (r .total ≤ choice .total + price) ⌝ }
-{
-    if !taken {
-        return choice;
-    }
-    let mut next = choice;
-    let at = next.count;
-    next.rows[at] = row as u32;
-    next.count = at + 1;
-    next.total = next.total + price;
-    next
-}
-
-fn choice_of(hall: Small, cuts: Cuts, rows: u64) -> Choice
-    requires { ⌜ (hall .count ≤ 10) × (cuts .count ≤ 64) ⌝ }
-    ensures { λ r. ⌜ r .count ≤ 10 ⌝ }
-{
-    let count = hall.count;
-    let mut choice = Choice {
-        joins: meets_all(cuts, rows),
-        total: 0,
-        count: 0,
-        rows: [0; 10],
-    };
-    let mut i: usize = 0;
-    while i < count {
-        choice = with_row(choice, (rows >> i) % 2 == 1, i + 1, wide(hall.price[i]));
-        i += 1;
-    }
-    choice
-}
-
-// Whether the first of two lists has the smaller number at the first place where they differ.
-fn precedes(a: [u32; 10], b: [u32; 10]) -> bool {
-    let mut k: usize = 0;
-    while k < 10 {
-        if a[k] != b[k] {
-            return a[k] < b[k];
-        }
-        k += 1;
-    }
-    false
-}
-
-// By total, then row count, then dictionary order.
-fn comes_before(a: Choice, b: Choice) -> bool {
-    if a.total != b.total {
-        return a.total < b.total;
-    }
-    if a.count != b.count {
-        return a.count < b.count;
-    }
-    let left = a.rows;
-    let right = b.rows;
-    precedes(left, right)
-}
-
-fn earlier(best: Choice, choice: Choice) -> Choice
-    requires { ⌜ (best .count ≤ 10) × (choice .count ≤ 10) ⌝ }
-    ensures { λ r. ⌜ r .count ≤ 10 ⌝ }
-{
-    if !choice.joins {
-        return best;
-    }
-    if !best.joins {
-        return choice;
-    }
-    if comes_before(choice, best) {
-        choice
-    } else {
-        best
-    }
-}
-
-// The first joining choice. Where the hall is not joined some directed cut has no row, and no choice joins.
-pub fn first_choice(hall: Small) -> Choice
+// Whether some choice joins, which is whether all rows together do.
+pub fn some_joins(hall: Small) -> bool
     requires { ⌜ (hall .n ≤ 6) × (hall .count ≤ 10) ⌝ }
-    ensures { λ r. ⌜ r .count ≤ 10 ⌝ }
 {
     let cuts = cuts_of(hall);
-    let choices = subsets(hall.count);
-    let mut best = Choice {
-        joins: false,
-        total: 0,
-        count: 0,
-        rows: [0; 10],
-    };
-    let mut rows: u64 = 0;
-    while rows < choices {
-        best = earlier(best, choice_of(hall, cuts, rows));
-        rows += 1;
+    joins(&cuts.rows, cuts.count, u64::MAX)
+}
+
+// The price where it counts, else 0.
+fn paid(price: u8, counts: bool) -> u32
+    ensures { λ r. ⌜ r < 256 ⌝ }
+{
+    if counts { price as u32 } else { 0 }
+}
+
+fn total_of(hall: Small, choice: u64) -> u32
+    requires { ⌜ hall .count ≤ 10 ⌝ }
+{
+    let count = hall.count;
+    let mut total: u32 = 0;
+    let mut i: usize = 0;
+    while i < count {
+        let counts = (choice >> i) % 2 == 1;
+        total = total + paid(hall.price[i], counts);
+        i += 1;
     }
-    best
+    total
+}
+
+// Fewer rows; with as many, the first row that is in one only is in the first.
+fn precedes(a: u64, b: u64) -> bool {
+    let rows = u64::count_ones(a);
+    let others = u64::count_ones(b);
+    if rows != others {
+        return rows < others;
+    }
+    let differ = a ^ b;
+    if differ == 0 {
+        return false;
+    }
+    let lowest = differ ^ (differ & (differ - 1));
+    a & lowest != 0
+}
+
+// Whether a choice of a total goes before another: by total, then by rows.
+fn beats(total: u32, choice: u64, other_total: u32, other: u64) -> bool {
+    if total != other_total {
+        return total < other_total;
+    }
+    precedes(choice, other)
+}
+
+// Whether the choice joins at this total, and no other that joins goes before it.
+pub fn is_first(hall: Small, choice: u64, total: u32) -> bool
+    requires { ⌜ (hall .n ≤ 6) × (hall .count ≤ 10) ⌝ }
+{
+    let cuts = cuts_of(hall);
+    let count = cuts.count;
+    if !joins(&cuts.rows, count, choice) {
+        return false;
+    }
+    if total_of(hall, choice) != total {
+        return false;
+    }
+    let choices = sets::subsets(hall.count);
+    let mut other: u64 = 0;
+    while other < choices {
+        if joins(&cuts.rows, count, other) {
+            if beats(total_of(hall, other), other, total, choice) {
+                return false;
+            }
+        }
+        other += 1;
+    }
+    true
 }
