@@ -1,14 +1,14 @@
--- `tries::marks::shores_kept` ends and reads no place outside the list. The invariant: i is at least the first place looked at. The measure is 125 - i. Assumes nothing.
+-- `tries::same_levels` ends and reads no place outside the lists. The invariant: i is at least the first place looked at. The measure is 64 - i. Assumes nothing.
 use Prim.Native.Nat.{_≤_, _-_}
 use borrow.Author.Needs.{needs}
-use Rattle.tries.proofs.marks.shores_kept.Statement.{statement}
-use Rattle.tries.proofs.marks.shores_kept.Tie as tie
+use Rattle.tries.proofs.same_levels.Statement.{statement}
+use Rattle.tries.proofs.same_levels.Tie as tie
 
 abbrev Inv-loop : tie.InvT-loop
-Inv-loop from shores i₀ i = from ≤ i
+Inv-loop a b from i₀ i = from ≤ i
 
 abbrev μ-loop : tie.MeasureT-loop
-μ-loop from shores i₀ i = 126 - i
+μ-loop a b from i₀ i = 64 - i
 
 loop-holds : tie.Need-loop-holds Inv-loop μ-loop
 loop-holds c = search needs
@@ -16,8 +16,14 @@ loop-holds c = search needs
 mul-if1 : tie.Need-mul-if1 Inv-loop μ-loop
 mul-if1 c = search needs
 
-array-read-if1 : tie.Need-array-read-if1 Inv-loop μ-loop
-array-read-if1 c = search needs
+element-copy-out-if1 : tie.Need-element-copy-out-if1 Inv-loop μ-loop
+element-copy-out-if1 c = search needs
+
+mul-if1-2 : tie.Need-mul-if1-2 Inv-loop μ-loop
+mul-if1-2 c = search needs
+
+element-copy-out-if1-2 : tie.Need-element-copy-out-if1-2 Inv-loop μ-loop
+element-copy-out-if1-2 c = search needs
 
 returns : tie.Need-returns Inv-loop μ-loop
 returns c = search needs
@@ -34,15 +40,17 @@ loop-again c = search needs
 returns-2 : tie.Need-returns-2 Inv-loop μ-loop
 returns-2 c = search needs
 
-pub shores-kept-spec : {M : Type 1} → statement M
-shores-kept-spec =
+pub same-levels-spec : {M : Type 1} → statement M
+same-levels-spec =
     tie.close
     (tie.spec
     Inv-loop
     μ-loop
     loop-holds
     mul-if1
-    array-read-if1
+    element-copy-out-if1
+    mul-if1-2
+    element-copy-out-if1-2
     returns
     add-i
     loop-less
