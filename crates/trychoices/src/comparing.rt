@@ -1,11 +1,10 @@
-// One small hall planned, and the plan held to the first of all choices.
+// One small hall planned, and the plan judged.
 ghost use Prim.Native.Nat.{_≤_};
-use exhaustive::Choice;
-use exhaustive::Small;
+use judge::Plan;
 use refusals::Kind;
-use tries::file;
-use tries::plans;
-use tries::plans::Tried;
+use smallhalls::Small;
+use smallhalls::file;
+use tries::Tried;
 
 pub enum Outcome {
     Same,
@@ -13,55 +12,47 @@ pub enum Outcome {
     Different,
 }
 
-// Whether a list starts with a choice's rows.
-fn has_rows(list: [u32; 256], choice: Choice) -> bool
-    requires { ⌜ choice .count ≤ 10 ⌝ }
+// Whether the plan is right, and nothing is written after it.
+fn is_right(hall: Small, tried: Tried) -> bool
+    requires { ⌜ (hall .n ≤ 6) × (hall .count ≤ 10) ⌝ }
 {
-    let count = choice.count;
-    let mut k: usize = 0;
-    while k < count {
-        if list[k] != choice.rows[k] {
-            return false;
-        }
-        k += 1;
-    }
-    true
-}
-
-// Whether a plan is a choice that joins, with the choice's total.
-fn is_choice(tried: Tried, choice: Choice) -> bool
-    requires { ⌜ choice .count ≤ 10 ⌝ }
-{
-    if !choice.joins {
-        return false;
-    }
     let planned = tried.planned;
-    if planned.chosen as usize != choice.count {
-        return false;
-    }
-    if planned.total != choice.total {
-        return false;
-    }
     let lists = tried.lists;
+    let chosen = planned.chosen as usize;
+    let cuts = planned.cuts as usize;
+    let levelled = planned.levels as usize;
     let rows = lists.rows;
-    has_rows(rows, choice)
+    let shores = lists.shores;
+    let weights = lists.weights;
+    let levels = lists.levels;
+    let plan = Plan {
+        rows,
+        chosen,
+        total: planned.total,
+        shores,
+        weights,
+        cuts,
+        levels,
+        levelled,
+    };
+    judge::is_right(hall, plan) & tries::kept_after(lists, chosen, cuts, levelled)
 }
 
-// A reply to a file against the first choice of its hall.
-fn judged(file: &[u8], tried: Tried, choice: Choice) -> Outcome
-    requires { ⌜ choice .count ≤ 10 ⌝ }
+// A reply beside the choices of its hall.
+fn judged(hall: Small, tried: Tried) -> Outcome
+    requires { ⌜ (hall .n ≤ 6) × (hall .count ≤ 10) ⌝ }
 {
     let planned = tried.planned;
     let lists = tried.lists;
     let refusal = planned.refusal;
     match refusal {
         Kind::None => {
-            if is_choice(tried, choice) & plans::sound(file, tried) {
+            if is_right(hall, tried) {
                 return Outcome::Same;
             }
         }
         Kind::Unjoined => {
-            if !choice.joins & plans::untouched(lists) {
+            if !exhaustive::some_joins(hall) & tries::kept_after(lists, 0, 0, 0) {
                 return Outcome::Unjoined;
             }
         }
@@ -73,8 +64,8 @@ fn judged(file: &[u8], tried: Tried, choice: Choice) -> Outcome
 pub fn compared(hall: Small) -> Outcome
     requires { ⌜ (hall .n ≤ 6) × (hall .count ≤ 10) ⌝ }
 {
-    let file = file::of_small(hall);
+    let file = file::bytes_of(hall);
     let size = file::length(hall.count);
-    let tried = plans::plan(&file[..size], 256, 125, 125, 64);
-    judged(&file[..size], tried, exhaustive::first_choice(hall))
+    let tried = tries::plan(&file[..size], 256, 125, 125, 64);
+    judged(hall, tried)
 }

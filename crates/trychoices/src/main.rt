@@ -1,11 +1,11 @@
-// Plans small halls and holds each plan to the first of all choices, found by trying every one, and to its cuts.
+// Plans small halls and judges each plan: against every choice, and by its cuts and levels.
 mod comparing;
-mod drawing;
 
 ghost use Prim.Native.Nat.{_≤_};
 use comparing::Outcome;
-use exhaustive::Small;
 use libc::STDOUT_FILENO;
+use smallhalls::Small;
+use smallhalls::drawing;
 use std::num::wrapping_add_u64;
 
 // Halls whose plan is the first choice, halls refused that no choice joins, and halls where planner and search differ.
@@ -67,7 +67,7 @@ fn of_size(tally: Tally, n: usize, rows: usize, prices: u64) -> Tally
 fn try_all(n: usize, rows: usize, prices: u64)
     requires { ⌜ (2 ≤ n) × (n ≤ 6) × (rows ≤ 10) × (1 ≤ prices) × (prices ≤ 256) ⌝ }
 {
-    let mut tally = counted(NONE, drawing::empty(n));
+    let mut tally = counted(NONE, smallhalls::without_rows(n));
     let mut count: usize = 1;
     while count <= rows {
         tally = of_size(tally, n, count, prices);

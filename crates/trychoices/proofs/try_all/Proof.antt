@@ -10,8 +10,8 @@ Inv-loop n rows prices tally₀ count₀ t6 t7 t8 tally count = (1 ≤ count) ×
 abbrev μ-loop : tie.MeasureT-loop
 μ-loop n rows prices tally₀ count₀ t6 t7 t8 tally count = rows + 1 - count
 
-empty-requires : tie.Need-empty-requires Inv-loop μ-loop
-empty-requires c κs = search needs
+without-rows-requires : tie.Need-without-rows-requires Inv-loop μ-loop
+without-rows-requires c κs = search needs
 
 counted-requires : tie.Need-counted-requires Inv-loop μ-loop
 counted-requires c κs = search needs
@@ -64,7 +64,7 @@ try-all-spec =
     (tie.spec
     Inv-loop
     μ-loop
-    empty-requires
+    without-rows-requires
     counted-requires
     loop-holds
     of-size-requires
