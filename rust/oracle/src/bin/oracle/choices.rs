@@ -17,7 +17,7 @@ fn tally(files: impl Iterator<Item = Vec<u8>>) -> String {
 }
 
 /// The next of a sequence of numbers, by three shifts.
-pub fn next_of(x: u64) -> u64 {
+fn next_of(x: u64) -> u64 {
     let a = x ^ x << 13;
     let b = a ^ a >> 7;
     b ^ b << 17

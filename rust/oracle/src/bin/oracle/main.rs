@@ -4,24 +4,20 @@
 //!     oracle check FILE ROWS             JOINS, MISSES with the shore, or REFUSED
 //!     oracle tight FILE ROWS JUNCTION    AROUND with the set, MISSES, or REFUSED
 //!     oracle plan FILE                   the first joining choice: OPEN, its rows, TOTAL; or REFUSED
-//!     oracle cuts FILE                   CUTS and how many stand beside that choice in a right list; or REFUSED
 //!     oracle list FILE                   a right printed list
 //!     oracle judge FILE LIST             RIGHT, or what is wrong with a printed list
-//!     oracle judge FOLDER LISTS          the same of many, each after the name of its hall's file and a colon
-//!     oracle lines PROGRAM               what trychoices or tryedges has to print
+//!     oracle lines trychoices            what trychoices has to print
 //!
 //! ROWS is a list of row numbers with commas, or - for none. Without words, each line of standard input is a request.
 
 mod choices;
-mod edges;
 mod plans;
 
-use std::path::Path;
 use std::process::ExitCode;
 
 use oracle::{hall_in, holds, words, Told};
 
-const USAGE: &str = "usage: oracle read|check|tight|plan|cuts|list|judge|lines ..., as src/bin/oracle/main.rs says";
+const USAGE: &str = "usage: oracle read|check|tight|plan|list|judge|lines ..., as src/bin/oracle/main.rs says";
 
 /// The answer, or what is wrong.
 fn answer(request: &[&str]) -> Result<String, String> {
@@ -33,16 +29,9 @@ fn answer(request: &[&str]) -> Result<String, String> {
         ["check", name, rows] => told(oracle::check(&file(name)?, &choice(rows)?)),
         ["tight", name, rows, junction] => tight(&file(name)?, &choice(rows)?, number(junction)?),
         ["plan", name] => plans::choice(&file(name)?),
-        ["cuts", name] => plans::cuts(&file(name)?),
         ["list", name] => plans::list(&file(name)?),
-        ["judge", name, list] => {
-            let text = String::from_utf8_lossy(&file(list)?).into_owned();
-            let lists = if Path::new(name).is_dir() { named(name, &text) } else { vec![(name.to_string(), text)] };
-            lists.iter().try_for_each(|(name, text)| judge(name, text))?;
-            "RIGHT\n".to_string()
-        }
+        ["judge", name, list] => judge(name, &String::from_utf8_lossy(&file(list)?))?,
         ["lines", "trychoices"] => choices::lines(),
-        ["lines", "tryedges"] => edges::lines(),
         _ => return Err(USAGE.to_string()),
     })
 }
@@ -51,24 +40,11 @@ fn file(name: &str) -> Result<Vec<u8>, String> {
     std::fs::read(name).map_err(|error| format!("{name}: {error}"))
 }
 
-fn judge(name: &str, text: &str) -> Result<(), String> {
+fn judge(name: &str, text: &str) -> Result<String, String> {
     match plans::judge(&file(name)?, text).first() {
         Some(fault) => Err(format!("{name}: {fault}")),
-        None => Ok(()),
+        None => Ok("RIGHT\n".to_string()),
     }
-}
-
-/// The files of a folder that a text names, and the list after each name.
-fn named(folder: &str, text: &str) -> Vec<(String, String)> {
-    let mut lists: Vec<(String, String)> = Vec::new();
-    for line in text.split_inclusive('\n') {
-        match (line.split_once(':'), lists.last_mut()) {
-            (Some((name, rest)), _) => lists.push((format!("{folder}/{name}"), rest.trim_start().to_string())),
-            (None, Some((_, list))) => *list += line,
-            (None, None) => lists.push((format!("{folder}/"), line.to_string())),
-        }
-    }
-    lists
 }
 
 fn number(word: &str) -> Result<u32, String> {

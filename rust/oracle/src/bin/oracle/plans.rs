@@ -10,7 +10,7 @@ pub fn judge(file: &[u8], text: &str) -> Vec<String> {
 }
 
 /// The first joining choice, with cuts that fit it. In small halls it is the first when every choice is tried, too.
-pub fn plan(file: &[u8]) -> Result<(Hall, Listed), Refusal> {
+fn plan(file: &[u8]) -> Result<(Hall, Listed), Refusal> {
     let hall = hall_in(file)?;
     let (mut rows, mut shores, mut weights, mut levels) = ([0; 256], [0; 125], [0; 125], [0; 64]);
     let planned = reference::plan_into(file, &mut rows, &mut shores, &mut weights, &mut levels)?;
@@ -34,10 +34,6 @@ pub fn refused(refusal: Refusal) -> String {
 
 pub fn choice(file: &[u8]) -> String {
     told(file, |_, plan| format!("OPEN {}{} TOTAL {}\n", plan.rows.len(), words(&plan.rows), plan.total))
-}
-
-pub fn cuts(file: &[u8]) -> String {
-    told(file, |_, plan| format!("CUTS {}\n", plan.shores.len()))
 }
 
 pub fn list(file: &[u8]) -> String {
