@@ -1,4 +1,4 @@
--- `trylanes::lending::plan` is safe and ends: a walk of its MIR, by hand. The first places of the list of cuts are lent for a lifetime that the walk makes. Once `plan_lanes`, of which it knows only that it meets its contract, has returned, the lifetime is ended, and the list comes back with what it then holds.
+-- `lending::lend` is safe and ends: a walk of its MIR, by hand. The first places of the list of cuts are lent for a lifetime that the walk makes. Once `plan_lanes`, of which it knows only that it meets its contract, has returned, the lifetime is ended, and the list comes back with what it then holds.
 -- Assumes nothing.
 use mathlib.Core.Path.{_≡_, refl, sym, ap, subst, _∙_}
 use mathlib.Core.List.{List, [], _∷_, _++_, map}
@@ -58,14 +58,14 @@ use Rattle.lanes.proofs.plan_lanes as plan-lanes
 use Rattle.lanes.proofs.plan_lanes.Symbol as plan-lanes-def
 use Rattle.lanes.proofs.plan_lanes.Symbol.{name as #lanes·plan-lanes}
 use Rattle.lanes.proofs.plan_lanes.Met as plan-lanes-thm
-use Rattle.trylanes.specs.declared.lending.Lanes.{Lanes}
-use Rattle.trylanes.proofs.Lent.{After, Local, lends-part, part-back}
-use Rattle.trylanes.proofs.lending.Lanes as N
-use Rattle.trylanes.proofs.lending.Lanes.Laws as N′
-use Rattle.trylanes.proofs.lending.plan.Key.{name as #trylanes·lending·plan}
-use Rattle.trylanes.proofs.lending.plan as plan
-use Rattle.trylanes.proofs.lending.plan.Statement as stated
-use Rattle.trylanes.proofs.lending.plan.Code as code
+use Rattle.lending.specs.declared.Lanes.{Lanes}
+use Rattle.lending.proofs.Lent.{After, Local, lends-part, part-back}
+use Rattle.lending.proofs.Lanes as N
+use Rattle.lending.proofs.Lanes.Laws as N′
+use Rattle.lending.proofs.lend.Key.{name as #lending·lend}
+use Rattle.lending.proofs.lend as lend
+use Rattle.lending.proofs.lend.Statement as stated
+use Rattle.lending.proofs.lend.Code as code
 
 abbrev R : RattleType
 R = C.the-row
@@ -73,7 +73,7 @@ R = C.the-row
 abbrev All : RattleType
 All = Array R 126
 
-abbrev stayed : Stays (plan.ended .signature .params) (plan.ended .kept)
+abbrev stayed : Stays (lend.ended .signature .params) (lend.ended .kept)
 stayed = (stay-dropped _ yes, (gave-slice (1 ∷ []) tt (plain (λ _. u32)), (stay-dropped _ yes, (stay-dropped _ yes, (gave-slice (2 ∷ []) tt (plain (λ _. i32)), tt)))))
 
 -- the machine value of a list of cuts
@@ -144,14 +144,14 @@ module _ {M : Type 1} (𝓤 : URA M) (H : Heap 𝓤) (A : Atoms 𝓤) (W : Given
   abbrev v₃ : Val
   v₃ = sliceVal (levels .ptr) (length (levels .now))
 
-  abbrev vals : Vals plan.signature κs
+  abbrev vals : Vals lend.signature κs
   vals = (v₀ ∷ [], (v₁ ∷ [], (array xs ∷ [], (vint w64 room ∷ [], (v₃ ∷ [], tt)))))
 
-  abbrev bound : walkOf 𝓤 H A plan.ended stayed (plan.clauses 𝓤 H A mem′ run) .Ghost
+  abbrev bound : walkOf 𝓤 H A lend.ended stayed (lend.clauses 𝓤 H A mem′ run) .Ghost
   bound = ((κs, qs, tt, a, vals), tt)
 
   abbrev Post : Val → SProp 𝓤
-  Post = walkOf 𝓤 H A plan.ended stayed (plan.clauses 𝓤 H A mem′ run) .post bound
+  Post = walkOf 𝓤 H A lend.ended stayed (lend.clauses 𝓤 H A mem′ run) .post bound
 
   -- what the lists own
   abbrev File : Fml
@@ -181,7 +181,7 @@ module _ {M : Type 1} (𝓤 : URA M) (H : Heap 𝓤) (A : Atoms 𝓤) (W : Given
   to-plan α l γ = ((κs′ α, (q₀, (q₁, (fullShare, (q₂, tt)))), tt, a′ l γ, (v₀ ∷ [], (v₁ ∷ [], (v₂ l ∷ [], (v₃ ∷ [], tt))))), tt)
 
   asked : (α l : ℕ) (γ : GName)
-      → ent 𝓤 (sep 𝓤 (onEntry 𝓤 H A plan.signature κs qs a vals) (sep 𝓤 (A .lft (α ∷ []) fullShare) (sem 𝓤 H A (MutSlice (named 2) (α ∷ []) R .own (part l γ) (v₂ l ∷ []))))) (Plans 𝓤 H A mem′ run .pre (to-plan α l γ))
+      → ent 𝓤 (sep 𝓤 (onEntry 𝓤 H A lend.signature κs qs a vals) (sep 𝓤 (A .lft (α ∷ []) fullShare) (sem 𝓤 H A (MutSlice (named 2) (α ∷ []) R .own (part l γ) (v₂ l ∷ []))))) (Plans 𝓤 H A mem′ run .pre (to-plan α l γ))
   asked α l γ =
       qed W (((‵ (flft κ₀ q₀) ⊛ ‵ (flft κ₁ q₁) ⊛ ‵ (flft κ₂ q₂) ⊛ ‵ ftrue) ⊛ ‵ (owns (ShrSlice (named 0) κ₀ u8 ∷ MutSlice (named 1) κ₁ u32 ∷ All ∷ usize ∷ MutSlice (named 2) κ₂ i32 ∷ []) a vals)) ∷ ‵ (flft (α ∷ []) fullShare) ∷ ‵ (MutSlice (named 2) (α ∷ []) R .own (part l γ) (v₂ l ∷ [])) ∷ []) ∵
       split ! $ split ! $ move ! (1 ∷ []) $ split ! $ move ! (1 ∷ []) $ split ! $
@@ -198,7 +198,7 @@ module _ {M : Type 1} (𝓤 : URA M) (H : Heap 𝓤) (A : Atoms 𝓤) (W : Given
       → ent 𝓤 (⋆ 𝓤 H A ((‵ (flft κ₂ q₂) ⊛ ‵ ftrue) ∷ ‵ (flft κ₁ q₁) ∷ ‵ (flft κ₀ q₀) ∷ ‵ (finally u32 (rows .name) zs) ∷ ‵ (finally i32 (levels .name) ws) ∷ [])) (Post (v-lanes r ys))
   exits r u ys w is-r is-ys zs ws e₁ e₃ =
       qed W ((‵ (flft κ₂ q₂) ⊛ ‵ ftrue) ∷ ‵ (flft κ₁ q₁) ∷ ‵ (flft κ₀ q₀) ∷ ‵ (finally u32 (rows .name) zs) ∷ ‵ (finally i32 (levels .name) ws) ∷ []) ∵
-      suffices ! _ (ends-at 𝓤 H A plan.ended stayed (plan.clauses 𝓤 H A mem′ run) W bound (v-lanes r ys) (lanes r ys) (tt, (zs, (tt, (tt, (ws, tt))))) (tt, (e₁, (tt, (tt, (e₃, tt)))))) $
+      suffices ! _ (ends-at 𝓤 H A lend.ended stayed (lend.clauses 𝓤 H A mem′ run) W bound (v-lanes r ys) (lanes r ys) (tt, (zs, (tt, (tt, (ws, tt))))) (tt, (e₁, (tt, (tt, (e₃, tt)))))) $
       suffices ! _ (∗emp 𝓤 _) $ move ! (1 ∷ 0 ∷ []) $ join ! $ move ! (1 ∷ 0 ∷ []) $ join ! $ frame ! $
       -- [the last rows; the last levels]
       nothing ! $ move ! (2 ∷ 0 ∷ []) $ fjoin ! $ nothing ! $ fjoin ! $ nothing ! $ fjoin ! $ move ! (1 ∷ 0 ∷ []) $ fjoin ! $ nothing ! $ fjoin ! $
@@ -225,9 +225,9 @@ module _ {M : Type 1} (𝓤 : URA M) (H : Heap 𝓤) (A : Atoms 𝓤) (W : Given
 
     module _ (Ca : Calls 𝓤 H) (Λ : Loops 𝓤 H) (fm : FmC 𝓤 H (W .laws) Ca) (known : Triple 𝓤 (Ca #lanes·plan-lanes) (Plans 𝓤 H A mem′ run))
         (fits₀ : length (file .now) < 2 ^ 64) (fits₁ : length (rows .now) < 2 ^ 64) (fits₃ : length (levels .now) < 2 ^ 64) where
-      walk : ent 𝓤 (onEntry 𝓤 H A plan.signature κs qs a vals) (WpFn 𝓤 H Ca Λ code.function (v₀ ∷ v₁ ∷ array xs ∷ vint w64 room ∷ v₃ ∷ []) Post)
+      walk : ent 𝓤 (onEntry 𝓤 H A lend.signature κs qs a vals) (WpFn 𝓤 H Ca Λ code.function (v₀ ∷ v₁ ∷ array xs ∷ vint w64 room ∷ v₃ ∷ []) Post)
       walk =
-          qed W (raw (onEntry 𝓤 H A plan.signature κs qs a vals) ∷ []) ∵ enter ! Ca Λ code.function (v₀ ∷ v₁ ∷ array xs ∷ vint w64 room ∷ v₃ ∷ []) _ $
+          qed W (raw (onEntry 𝓤 H A lend.signature κs qs a vals) ∷ []) ∵ enter ! Ca Λ code.function (v₀ ∷ v₁ ∷ array xs ∷ vint w64 room ∷ v₃ ∷ []) _ $
           alloc1 ! (λ l₀. alloc1 ! (λ l₁. alloc1 ! (λ l₂. alloc1 ! (λ l₃. alloc1 ! (λ l₄. alloc1 ! (λ l₅. alloc1 ! (λ l₆. alloc1 ! (λ l₇. alloc1 ! (λ l₈. alloc1 ! (λ l₉. alloc1 ! (λ l₁₀. alloc1 ! (λ l₁₁. alloc1 ! (λ l₁₂. alloc1 ! (λ l₁₃. alloc1 ! (λ l₁₄. alloc0 ! $ params1 ! $
           pass1 ! (init ! 26 refl (tt, (tt, (record { fits = fits₀ }, tt)))) $ pass1 ! (init ! 24 refl (tt, (tt, (record { fits = fits₁ }, tt)))) $ pass1 ! (init ! 22 refl typed-cuts) $ pass1 ! (init ! 20 refl (tt, record { fits = room-fits })) $ pass1 ! (init ! 18 refl (tt, (tt, (record { fits = fits₃ }, tt)))) $ pass0 ! $
           -- [_14; …; _13; …; …; _1; …; room for _0; …; what is had at entry]
@@ -272,23 +272,23 @@ module _ {M : Type 1} (𝓤 : URA M) (H : Heap 𝓤) (A : Atoms 𝓤) (W : Given
 
 module _ {M : Type 1} (𝓤 : URA M) (H : Heap 𝓤) (A : Atoms 𝓤) (W : Given 𝓤 H A) (mem′ : Memory → SProp 𝓤) (run : Routine → Fun 𝓤) (𝓣 : Tables 𝓤 H)
     (known : Triple 𝓤 (𝓣 .C #lanes·plan-lanes) (Plans 𝓤 H A mem′ run)) where
-  plan-walks : Walks 𝓤 H A plan.ended stayed (WpFn 𝓤 H (𝓣 .C) (𝓣 .Λ) code.function) (plan.clauses 𝓤 H A mem′ run)
-  plan-walks = walked 𝓤 H A plan.ended stayed (plan.clauses 𝓤 H A mem′ run) (WpFn 𝓤 H (𝓣 .C) (𝓣 .Λ) code.function)
+  lend-walks : Walks 𝓤 H A lend.ended stayed (WpFn 𝓤 H (𝓣 .C) (𝓣 .Λ) code.function) (lend.clauses 𝓤 H A mem′ run)
+  lend-walks = walked 𝓤 H A lend.ended stayed (lend.clauses 𝓤 H A mem′ run) (WpFn 𝓤 H (𝓣 .C) (𝓣 .Λ) code.function)
       (λ κs. (slice-vals, (slice-vals, (array-vals (LL.vals C.the-type C′.the-laws), (uint-vals w64, (slice-vals, tt))))))
       (λ κs. (shr-slice-tells (named 0) (κs .0) u8, (mut-slice-tells (named 1) (κs .1 .0) u32, (array-tells R (LL.vals C.the-type C′.the-laws) (LL.tells C.the-type C′.the-laws) 126, (uint-tells w64, (mut-slice-tells (named 2) (κs .1 .1 .0) i32, tt))))))
       (λ κs qs bounds a g are. needs 𝓤 (a .1 .1 .1 .0 ≤ 126) _ (λ few.
       walk 𝓤 H A W mem′ run (κs .0) (κs .1 .0) (κs .1 .1 .0) (qs .0) (qs .1 .0) (qs .1 .1 .0) (a .0) (a .1 .0) (a .1 .1 .0) (a .1 .1 .1 .0) (a .1 .1 .1 .1 .0) (are .1 .1 .0) (are .1 .1 .1 .0 .1) few
       (𝓣 .C) (𝓣 .Λ) (fmOf 𝓤 H (W .laws) 𝓣) known (are .0 .0 .1 .0) (are .1 .0 .0 .1 .0) (are .1 .1 .1 .1 .0 .0 .1 .0)))
 
-  plan-meets : Meets 𝓤 H A plan.signature (WpFn 𝓤 H (𝓣 .C) (𝓣 .Λ) code.function) (plan.spec 𝓤 H A mem′ run)
-  plan-meets = walk-meets 𝓤 H A plan.ended stayed W
+  lend-meets : Meets 𝓤 H A lend.signature (WpFn 𝓤 H (𝓣 .C) (𝓣 .Λ) code.function) (lend.spec 𝓤 H A mem′ run)
+  lend-meets = walk-meets 𝓤 H A lend.ended stayed W
       (goes-dropped 𝓤 H A W 3 (shrSliceOf (0 ∷ []) tt (plain (λ _. u8))) yes (λ κs x f. refl), (goes-gave-slice 𝓤 H A W 3 1 tt (plain (λ _. u32)), (goes-dropped 𝓤 H A W 3 (plain (λ _. All)) yes (λ κs x f. refl), (goes-dropped 𝓤 H A W 3 (plain (λ _. usize)) yes (λ κs x f. refl), (goes-gave-slice 𝓤 H A W 3 2 tt (plain (λ _. i32)), tt)))))
-      (plan.clauses 𝓤 H A mem′ run) (WpFn 𝓤 H (𝓣 .C) (𝓣 .Λ) code.function) (WpFn-mono 𝓤 H (W .laws) 𝓣 code.function) plan-walks
+      (lend.clauses 𝓤 H A mem′ run) (WpFn 𝓤 H (𝓣 .C) (𝓣 .Λ) code.function) (WpFn-mono 𝓤 H (W .laws) 𝓣 code.function) lend-walks
 
-pub plan-spec : {M : Type 1} → stated.statement M
+pub lend-spec : {M : Type 1} → stated.statement M
 unfolding code.routine tablesOf
-plan-spec 𝓤 H 𝓜 𝓖 𝓡 =
-    entered 𝓤 H (tripleOf 𝓤 H (𝓖 .A) plan.signature (plan.spec 𝓤 H (𝓖 .A) (𝓜 .mem) (𝓡 .run)))
-    (tables 𝓤 H 𝓜 𝓡 code.env .C) (tables 𝓤 H 𝓜 𝓡 code.env .Λ) #trylanes·lending·plan code.function (code.unfolded 𝓤 H 𝓜 𝓡)
-    (plan-meets 𝓤 H (𝓖 .A) (givenOf 𝓤 H 𝓜 𝓖) (𝓜 .mem) (𝓡 .run) (tablesOf 𝓤 H 𝓜 (tables 𝓤 H 𝓜 𝓡 code.env))
+lend-spec 𝓤 H 𝓜 𝓖 𝓡 =
+    entered 𝓤 H (tripleOf 𝓤 H (𝓖 .A) lend.signature (lend.spec 𝓤 H (𝓖 .A) (𝓜 .mem) (𝓡 .run)))
+    (tables 𝓤 H 𝓜 𝓡 code.env .C) (tables 𝓤 H 𝓜 𝓡 code.env .Λ) #lending·lend code.function (code.unfolded 𝓤 H 𝓜 𝓡)
+    (lend-meets 𝓤 H (𝓖 .A) (givenOf 𝓤 H 𝓜 𝓖) (𝓜 .mem) (𝓡 .run) (tablesOf 𝓤 H 𝓜 (tables 𝓤 H 𝓜 𝓡 code.env))
     (cited 𝓤 H (Plans 𝓤 H (𝓖 .A) (𝓜 .mem) (𝓡 .run)) 𝓜 𝓡 code.env #lanes·plan-lanes plan-lanes-def.routine code.calls-lanes·plan-lanes (plan-lanes-thm.met 𝓤 H 𝓜 𝓖 𝓡)))
