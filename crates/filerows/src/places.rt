@@ -2,7 +2,7 @@
 use crate::blocks;
 use crate::little;
 ghost use mathlib.Core.Path.{_≡_};
-ghost use Prim.Native.Nat.{_+_, _≤_, _<_};
+ghost use Prim.Native.Nat.{_+_, _≤_};
 ghost use lib.ListN.{length};
 ghost use Rattle.hall.specs.File.{field};
 ghost use Rattle.filerows.specs.Steps.{Row-ahead, Settled-place, Next-row};
@@ -28,7 +28,7 @@ pub struct Step {
 }
 
 // The place of a row that is there to read: where a block is used up, the next block's first.
-pub fn settle(file: &[u8], place: Place) -> Place
+fn settle(file: &[u8], place: Place) -> Place
     requires { ⌜ Row-ahead (now file) place ⌝ }
     ensures { λ r. ⌜ Settled-place (now (file .entry)) place r ⌝ }
 {
@@ -47,7 +47,7 @@ pub fn settle(file: &[u8], place: Place) -> Place
 }
 
 // The row in the eight bytes from place `at` on.
-pub fn lane_at(file: &[u8], at: usize) -> Lane
+fn lane_at(file: &[u8], at: usize) -> Lane
     requires { ⌜ at + 8 ≤ length (now file) ⌝ }
     ensures { λ r. ⌜ (r .from ≡ field at 2 (now (file .entry))) × (r .to ≡ field (at + 2) 2 (now (file .entry))) × (r .price ≡ field (at + 4) 4 (now (file .entry))) ⌝ }
 {

@@ -10,13 +10,13 @@ ghost use Rattle.growth.specs.Robust.{RobustSet};
 ghost use Rattle.growth.specs.Growth.{Known, Growing, Searched, Meeting};
 
 // A set, and the junctions that arcs from it lead to.
-pub struct Grown {
-    pub set: u64,
-    pub once: u64,
+struct Grown {
+    set: u64,
+    once: u64,
 }
 
 // The set with more junctions, and with all that solid arcs, second arcs and known sets then add.
-pub fn grow<'a>(
+fn grow<'a>(
     arcs: &'a [u64; 64],
     solid: &'a [u64; 64],
     known: &'a [u64; 64],
@@ -49,13 +49,13 @@ pub fn grow<'a>(
 }
 
 // What a search has seen, and which junctions of earlier searches it met.
-pub struct Seen {
-    pub seen: u64,
-    pub met: u64,
+struct Seen {
+    seen: u64,
+    met: u64,
 }
 
 // The search from the head at a place, which goes no further from the set, until it meets the other junctions.
-pub fn search_beside(arcs: &[u64; 64], set: u64, other: u64, place: usize) -> Seen
+fn search_beside(arcs: &[u64; 64], set: u64, other: u64, place: usize) -> Seen
     requires { ⌜ (place < 64) × (holds set (suc place) ≡ false) ⌝ }
     ensures { λ r. ⌜ Searched (at (now (arcs .entry))) set other (suc place) (r .seen) (r .met) ⌝ }
 {
@@ -73,7 +73,7 @@ pub fn search_beside(arcs: &[u64; 64], set: u64, other: u64, place: usize) -> Se
 }
 
 // Junctions in which the searches from two heads meet; none where these searches keep apart.
-pub fn meeting(arcs: &[u64; 64], set: u64, heads: u64) -> u64
+fn meeting(arcs: &[u64; 64], set: u64, heads: u64) -> u64
     requires { ⌜ ((y : ℕ) → 1 ≤ y → holds heads y ≡ true → holds set y ≡ false) ⌝ }
     ensures { λ r. ⌜ Meeting (at (now (arcs .entry))) set heads r ⌝ }
 {

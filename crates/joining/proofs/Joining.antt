@@ -12,8 +12,7 @@ use Rattle.laws.proofs.Finite.{sum-zero, sum-le, sum-at-least}
 use Rattle.laws.proofs.Connectives.{one-true, one-false}
 use Rattle.junctions.specs.Sets.{holds, full, Within}
 use Rattle.junctions.proofs.Sets.{and-holds, full-lt, within-full, within-both, some-junction, gather-lt}
-use Rattle.junctions.proofs.Single.{one-lt}
-pub use Rattle.junctions.proofs.Single.{one-self, one-within}
+use Rattle.junctions.proofs.Single.{one-lt, one-self, one-within}
 use Rattle.junctions.proofs.Members.{holds-some, full-in}
 use Rattle.junctions.proofs.Bounds.{within-full-lt}
 use Rattle.digraph.specs.Reach.{Closed, Reach}

@@ -82,7 +82,7 @@ levelled-more ks k before after v l e g = record {
 }
 
 -- the levels of a list of cuts, by place
-levels-size : (ks : List Cut) (n j : ℕ) → length (levels-from n j ks) ≡ n
+pub levels-size : (ks : List Cut) (n j : ℕ) → length (levels-from n j ks) ≡ n
 unfolding levels-from
 levels-size ks zero j = refl
 levels-size ks (suc n) j = ap suc (levels-size ks n (suc j))

@@ -10,7 +10,7 @@ ghost use Rattle.junctions.specs.Sets.{holds};
 ghost use Rattle.leveltable.specs.Levels.{Levels};
 
 // The junctions of the set whose potential is the value.
-pub fn level(set: u64, potential: &[u64; 64], value: u64) -> u64
+fn level(set: u64, potential: &[u64; 64], value: u64) -> u64
     ensures { λ r. ⌜ ((y : ℕ) → 1 ≤ y → holds r y ≡ (holds set y && eqb value (at (now (potential .entry)) y))) ⌝ }
 {
     let mut found: u64 = 0;

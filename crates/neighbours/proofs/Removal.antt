@@ -16,6 +16,7 @@ use Rattle.junctions.specs.Sets.{holds, full, Within}
 use Rattle.junctions.proofs.Sets.{within-full, gather-lt}
 use Rattle.junctions.proofs.Bounds.{within-full-lt}
 use Rattle.junctions.proofs.Members.{holds-some, lacks-proper}
+use Rattle.junctions.proofs.Single.{one-within, one-self}
 use Rattle.digraph.specs.Reach.{Closed, Reach}
 use Rattle.hall.specs.Hall.{Hall, row, count, enters}
 use Rattle.dicuts.specs.Shores.{Ranged, Shore, cover, once, Joining, Tight, Sep, sep, around}
@@ -23,7 +24,7 @@ use Rattle.dicuts.specs.Arcs.{arc, arcs}
 use Rattle.dicuts.proofs.Shores.{sep-true, true-sep, around-holds}
 use Rattle.joining.specs.Sealed.{Sealed}
 use Rattle.joining.proofs.Sealed.{sealed-closed, closed-sealed}
-use Rattle.joining.proofs.Joining.{sealed-cover, cover-sealed, one-within, one-self}
+use Rattle.joining.proofs.Joining.{sealed-cover, cover-sealed}
 use Rattle.neighbours.specs.Removal.{without, Spared, Chosen}
 
 -- what is reached lies in every sealed set that holds the start

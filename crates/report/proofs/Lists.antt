@@ -15,6 +15,7 @@ use Rattle.hall.specs.Plan.{Cut, cut, First, Beside, total, levels, levels-from
 use Rattle.hallfile.specs.declared.HallRecord.{HallRecord}
 use Rattle.refusals.specs.Kinds.{refusal-of}
 use Rattle.hallfile.specs.Record.{record-of}
+use Rattle.levels.proofs.Levelling.{levels-size}
 use Rattle.planning.specs.declared.Planned.{Planned}
 use Rattle.planning.specs.Plan.{plan-refusal, shores, weights, in-front, Filled, Turned, Plan-as, Plan-says}
 use Rattle.planning.proofs.Fronts.{front-fits, front-are, shores-length, weights-length}
@@ -55,11 +56,6 @@ unfolding paired shores weights cut
 same-cuts [] = refl
 same-cuts (k ∷ ks) = ap (λ (l : List Cut). k ∷ l) (same-cuts ks)
 
-levels-length : (k j : ℕ) (ks : List Cut) → length (levels-from k j ks) ≡ k
-unfolding levels-from
-levels-length zero j ks = refl
-levels-length (suc k) j ks = ap suc (levels-length k (suc j) ks)
-
 -- the lists of a plan, as they are printed
 pub record Lists (h : Hall) (r : Planned) (x y z : List ℕ) (w : List ℤ) : Type 0 where
   pub choice : List ℕ
@@ -83,9 +79,9 @@ module _ (h : Hall) (r : Planned) (a x b y q z : List ℕ) (d w : List ℤ) wher
       let c = plan .0 in
       let ks = plan .1 in
       let filled = plan .4 in
-      let last : r .levels ≡ length (levels-from (h .n) 1 ks) = filled .3 ∙ sym (levels-length (h .n) 1 ks) in
+      let last : r .levels ≡ length (levels-from (h .n) 1 ks) = filled .3 ∙ sym (levels-size ks (h .n) 1) in
       let tail : w ≡ levels-from (h .n) 1 ks ++ drop (length (levels-from (h .n) 1 ks)) d =
-      filled .8 ∙ ap (λ (k : ℕ). levels-from (h .n) 1 ks ++ drop k d) (sym (levels-length (h .n) 1 ks)) in
+      filled .8 ∙ ap (λ (k : ℕ). levels-from (h .n) 1 ks ++ drop k d) (sym (levels-size ks (h .n) 1)) in
       record {
         choice = c;
         cuts = ks;
@@ -134,7 +130,7 @@ module _ {h : Hall} {r : Planned} {x y z : List ℕ} {w : List ℤ} {hall : Hall
         choice = rw (same-hall, ls .rows-are) (ls .first .choice);
         cuts = omega (arith, ap length (ls .shores-are), shores-length (ls .cuts), ls .beside .few);
         paired = ap length (ls .shores-are) ∙ shores-length (ls .cuts) ∙ sym (weights-length (ls .cuts)) ∙ ap length (sym (ls .weights-are));
-        leveled = omega (arith, ap length (ls .levels-are), levels-length (h .n) 1 (ls .cuts));
+        leveled = omega (arith, ap length (ls .levels-are), levels-size (ls .cuts) (h .n) 1);
       }
 
   pub report-planned : (f : Refusal) → f .number ≡ 0 → {before after : List ℕ} {end : ℕ} →
