@@ -36,7 +36,7 @@ module _ (out : ℕ → ℕ) (v : ℕ) where
       w .1 .least s (one-within s x l (p s g)) (g .closed) u k (q (w .0) (w .1))
 
 module _ (out solids : ℕ → ℕ) (v : ℕ) where
-  -- where a solids arc leads to
+  -- where a solid arc leads to
   pub robust-firm :
       (x y : ℕ) → 1 ≤ x → x ≤ 64 → 1 ≤ y → Robust out solids v x → holds (out x) y ≡ true → holds (solids x) y ≡ true → Robust out solids v y
   robust-firm x y l m k r arc sure =
@@ -90,7 +90,7 @@ module _ (out solids : ℕ → ℕ) (v set todo once x sure near set′ todo′ 
   outside : (i : ℕ) → holds set′ i ≡ false → (holds set i ≡ false) × (holds sure i ≡ false)
   outside i f = let e = sym (set-is i) ∙ f in (or-false-l (holds set i) (holds sure i) e, or-false-r (holds set i) (holds sure i) e)
 
-  -- what an arc of x leads to is sure if the arc is solids, or an earlier arc leads there
+  -- what an arc of x leads to is sure if the arc is solid, or an earlier arc leads there
   sure-arc : (y : ℕ) → holds (out x) y ≡ true → (holds (solids x) y || holds once y) ≡ true → holds sure y ≡ true
   sure-arc y a t =
       sure-is y
@@ -216,7 +216,7 @@ module _ (out solids : ℕ → ℕ) (v set todo once x sure near set′ todo′ 
         (done-cases i li di);
   }
 
--- what is sure of a junction, from its arcs, its solids arcs, what arcs were found before, and what is known of it
+-- what is sure of a junction, from its arcs, its solid arcs, what arcs were found before, and what is known of it
 abbrev pub sure-of : (next solids once near : ℕ) → ℕ
 sure-of next solids once near = bitOr (bitAnd next (bitOr solids once)) near
 

@@ -1,12 +1,9 @@
 -- What holds while a robust set grows. Assumes nothing: these are definitions.
 use mathlib.Core.Path.{_≡_}
 use mathlib.Core.Bool.{Bool, true, false, _&&_, _||_, not}
-use mathlib.Core.List.{List}
-use Prim.Native.Nat.{ℕ, suc, _≤_, _<_}
-use lib.ListN.{length, getD}
-use Rattle.laws.specs.Lists.{at}
+use Prim.Native.Nat.{ℕ, _≤_}
 use Rattle.junctions.specs.Sets.{holds, Within}
-use Rattle.growth.specs.Robust.{Robust, RobustSet}
+use Rattle.growth.specs.Robust.{Robust}
 
 -- every junction of the set is robust from v
 abbrev pub All-robust : (out solids : ℕ → ℕ) → (v set : ℕ) → Type 0
@@ -20,7 +17,7 @@ Known out solids near = (x : ℕ) → 1 ≤ x → x ≤ 64 → All-robust out so
 abbrev pub done : (set todo x : ℕ) → Bool
 done set todo x = holds set x && not (holds todo x)
 
--- A SET THAT GROWS: its junctions are robust from v, of which the set holds the arcs that are solids; `once` has all that the
+-- A SET THAT GROWS: its junctions are robust from v, of which the set holds the arcs that are solid; `once` has all that the
 -- done junctions have arcs to, and what of that is outside the set has one such arc only
 pub record Growing (out solids : ℕ → ℕ) (v set todo once : ℕ) : Type 0 where
   pub robust : All-robust out solids v set
@@ -86,10 +83,3 @@ pub record Kept-apart (out : ℕ → ℕ) (set heads all : ℕ) : Type 0 where
 pub record Meeting (out : ℕ → ℕ) (set heads r : ℕ) : Type 0 where
   pub met : (y : ℕ) → 1 ≤ y → holds r y ≡ true → (holds set y ≡ false) × Met out set heads y
   pub none : r ≡ 0 → (all : ℕ) × Kept-apart out set heads all
-
--- of n places those from k on have the robust sets of their junctions, the others are empty
-pub record Robust-from (arcs solid sets : List ℕ) (n k : ℕ) : Type 0 where
-  pub size : length sets ≡ 64
-  pub each : (i : ℕ) → k ≤ i → i < n → RobustSet (at arcs) (at solid) (suc i) (getD sets i 0)
-  pub before : (i : ℕ) → i < k → getD sets i 0 ≡ 0
-  pub after : (i : ℕ) → n ≤ i → i < 64 → getD sets i 0 ≡ 0

@@ -15,7 +15,7 @@ arcs-without out x y z = cond (eqb z x) (bitXor (out z) (bitAnd (out z) (2 ^ (y 
 abbrev pub Bypass : (out : ℕ → ℕ) → (v x y s : ℕ) → Type 0
 Bypass out v x y s = Reach 64 (arcs-without out x y) (2 ^ (v - 1)) s
 
--- ROBUST: u is reached from v, and still is without any one arc that is not solids
+-- ROBUST: u is reached from v, and still is without any one arc that is not solid
 pub record Robust (out solids : ℕ → ℕ) (v u : ℕ) : Type 0 where
   pub reached : (s : ℕ) → Reach 64 out (2 ^ (v - 1)) s → holds s u ≡ true
   pub still : (x y : ℕ) → 1 ≤ x → x ≤ 64 → 1 ≤ y → holds (solids x) y ≡ false → (s : ℕ) → Bypass out v x y s → holds s u ≡ true

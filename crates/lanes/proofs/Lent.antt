@@ -39,8 +39,8 @@ spot new old xs i e h = ap₂ (λ (l : List ℕ) (j : ℕ). getD l j 0) e (zero-
 front-cuts : (ks : List plan.Cut) (y z b q : List ℕ) → y ≡ in-front (shores ks) b → z ≡ in-front (weights ks) q → cuts-from (record { shores = y; weights = z }) 0 (length ks) ≡ map lent ks
 front-cuts ks y z b q e f = cuts-are (record { shores = y; weights = z }) 0 ks (λ i h.
     ap₂ lent-cut
-    (spot (shores ks) b y i e (omega (arith, h, shores-length ks)) ∙ shore-at ks i h)
-    (spot (weights ks) q z i f (omega (arith, h, weights-length ks)) ∙ weight-at ks i h))
+    (spot (shores ks) b y i e (omega (arith, h, shores-length ks)) ∙ shore-at ks i)
+    (spot (weights ks) q z i f (omega (arith, h, weights-length ks)) ∙ weight-at ks i))
 
 module _ (bs a : List ℕ) (d : List ℤ) where
   too-short : (b : List Cut) → length b < 125 → lent-refusal bs (length a) (length b) (length d) ≡ refusal 1 0

@@ -54,8 +54,9 @@ pub fn plan(file: &[u8], room: usize) -> Tried
         shore: Junctions(tries::SHORE),
         weight: tries::NUMBER,
     };
-    let mut rows = [tries::NUMBER; 256];
-    let mut levels = [tries::LEVEL; 64];
+    let marks = tries::marked();
+    let mut rows = marks.rows;
+    let mut levels = marks.levels;
     let lanes = lend(file, &mut rows, [mark; 126], room, &mut levels);
     let planned = lanes.planned;
     let cuts = lanes.cuts;

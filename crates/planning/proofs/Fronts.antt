@@ -1,12 +1,12 @@
 -- Lists of which the first places are filled and the others are as they were, and the places of listed cuts in them. Assumes nothing.
 use mathlib.Core.Path.{_≡_, refl, sym, ap, _∙_}
-use mathlib.Core.List.{List, [], _∷_, _++_}
+use mathlib.Core.List.{List, [], _∷_, _++_, map}
 use Prim.Native.Nat.{ℕ, zero, suc, _+_, _-_, _<_, _≤_}
 use native.Mathlib.Nat.{add-zero, zero-add, add-suc, suc-add, not-suc-le-zero, le-of-suc-le-suc}
 use native.Mathlib.Omega.{arith}
 use lib.Dec.{ltb}
 use lib.IntN.{ℤ, pos}
-use lib.ListN.{length, getD, take, drop, length-append, length-drop, take-append-drop, List·getD-append}
+use lib.ListN.{length, getD, take, drop, length-append, length-drop, take-append-drop, length-map, List·getD-append, List·getD-map}
 use lib.Seq.{ext-getD, getD-append-add, getD-drop, take-at}
 use borrow.Author.Tests.{ltb-true, ltb-false}
 use Rattle.laws.proofs.Booleans.{by-bool}
@@ -48,27 +48,29 @@ module _ {A : Type 0} where
   front-are new old xs n e is = ap (take n) is ∙ take-at new (drop (length new) old) n (sym e)
 
 -- the shores and the weights of listed cuts, place by place
-pub shores-length : (ks : List Cut) → length (shores ks) ≡ length ks
+shores-map : (ks : List Cut) → shores ks ≡ map (λ c. c .shore) ks
 unfolding shores
-shores-length [] = refl
-shores-length (c ∷ ks) = ap suc (shores-length ks)
+shores-map [] = refl
+shores-map (c ∷ ks) = ap (λ (l : List ℕ). c .shore ∷ l) (shores-map ks)
+
+weights-map : (ks : List Cut) → weights ks ≡ map (λ c. c .weight) ks
+unfolding weights
+weights-map [] = refl
+weights-map (c ∷ ks) = ap (λ (l : List ℕ). c .weight ∷ l) (weights-map ks)
+
+pub shores-length : (ks : List Cut) → length (shores ks) ≡ length ks
+shores-length ks = ap length (shores-map ks) ∙ length-map ks (λ c. c .shore)
 
 pub weights-length : (ks : List Cut) → length (weights ks) ≡ length ks
-unfolding weights
-weights-length [] = refl
-weights-length (c ∷ ks) = ap suc (weights-length ks)
+weights-length ks = ap length (weights-map ks) ∙ length-map ks (λ c. c .weight)
 
-pub shore-at : (ks : List Cut) (i : ℕ) → i < length ks → getD (shores ks) i 0 ≡ getD ks i (cut 0 0) .shore
-unfolding shores
-shore-at [] i h = absurd (not-suc-le-zero h)
-shore-at (c ∷ ks) zero h = refl
-shore-at (c ∷ ks) (suc i) h = shore-at ks i (le-of-suc-le-suc h)
+pub shore-at : (ks : List Cut) (i : ℕ) → getD (shores ks) i 0 ≡ getD ks i (cut 0 0) .shore
+unfolding cut
+shore-at ks i = ap (λ (l : List ℕ). getD l i 0) (shores-map ks) ∙ List·getD-map (λ c. c .shore) ks i (cut 0 0)
 
-pub weight-at : (ks : List Cut) (i : ℕ) → i < length ks → getD (weights ks) i 0 ≡ getD ks i (cut 0 0) .weight
-unfolding weights
-weight-at [] i h = absurd (not-suc-le-zero h)
-weight-at (c ∷ ks) zero h = refl
-weight-at (c ∷ ks) (suc i) h = weight-at ks i (le-of-suc-le-suc h)
+pub weight-at : (ks : List Cut) (i : ℕ) → getD (weights ks) i 0 ≡ getD ks i (cut 0 0) .weight
+unfolding cut
+weight-at ks i = ap (λ (l : List ℕ). getD l i 0) (weights-map ks) ∙ List·getD-map (λ c. c .weight) ks i (cut 0 0)
 
 -- the cuts of two columns, place by place
 module _ (S W : ℕ → ℕ) where
@@ -98,7 +100,7 @@ module _ (ks : List Cut) (b q : List ℕ) (count : ℕ) (y z : List ℕ) (filled
   shores-front room =
       let long : length (shores ks) ≡ count = shores-length ks ∙ cuts-count in
       front-is 0 (shores ks) b y (omega (arith, filled .few)) (filled .shores-size)
-      (λ k l. sym (shore-at ks k (omega (arith, cuts-count)) ∙ ap (λ (c : Cut). c .shore) (cut-there k (omega arith))))
+      (λ k l. sym (shore-at ks k ∙ ap (λ (c : Cut). c .shore) (cut-there k (omega arith))))
       (λ k l. filled .shores-rest k (omega arith))
 
   pub weights-front : 125 ≤ length q → z ≡ in-front (weights ks) q
@@ -106,7 +108,7 @@ module _ (ks : List Cut) (b q : List ℕ) (count : ℕ) (y z : List ℕ) (filled
   weights-front room =
       let long : length (weights ks) ≡ count = weights-length ks ∙ cuts-count in
       front-is 0 (weights ks) q z (omega (arith, filled .few)) (filled .weights-size)
-      (λ k l. sym (weight-at ks k (omega (arith, cuts-count)) ∙ ap (λ (c : Cut). c .weight) (cut-there k (omega arith))))
+      (λ k l. sym (weight-at ks k ∙ ap (λ (c : Cut). c .weight) (cut-there k (omega arith))))
       (λ k l. filled .weights-rest k (omega arith))
 
 pub levels-front : (h : Hall) (ks : List Cut) (d w : List ℤ) → h .n ≤ length d → Levelled ks (h .n) d w → w ≡ levels h ks ++ drop (h .n) d

@@ -2,10 +2,10 @@
 use mathlib.Core.Path.{_≡_, refl, sym, ap, subst, _∙_}
 use mathlib.Core.Bool.{Bool}
 use mathlib.Core.List.{List}
-use Prim.Native.Nat.{ℕ, suc, _-_, _≤_}
+use Prim.Native.Nat.{ℕ, suc, _-_, _≤_, _<_}
 use native.Mathlib.Omega.{arith}
 use lib.Dec.{eqb, ltb}
-use lib.ListN.{getD, set, replicate, length-set, getD-replicate}
+use lib.ListN.{length, getD, set, replicate, length-set, getD-replicate}
 use lib.Seq.{getD-set-same, getD-set-other}
 use borrow.Author.Tests.{eqb-true, eqb-false, ltb-true, ltb-false}
 use Rattle.laws.specs.Lists.{at}
@@ -13,12 +13,19 @@ use Rattle.laws.proofs.Booleans.{by-bool, clash}
 use Rattle.junctions.specs.Sets.{holds}
 use Rattle.junctions.proofs.Sets.{none-holds}
 use Rattle.growth.specs.Robust.{Robust, RobustSet}
-use Rattle.growth.specs.Growth.{Known, Robust-from}
+use Rattle.growth.specs.Growth.{Known}
 use Rattle.hall.specs.Hall.{Hall}
 use Rattle.dicuts.specs.Shores.{Ranged, once, Joining, around}
 use Rattle.columns.specs.Columns.{Columns, Arcs, Neighbourhoods}
 use Rattle.tight.specs.Solid.{Solid-arcs}
 use Rattle.tight.proofs.Around.{robust-set-around}
+
+-- of n places those from k on have the robust sets of their junctions, the others are empty
+pub record Robust-from (arcs solid sets : List ℕ) (n k : ℕ) : Type 0 where
+  pub size : length sets ≡ 64
+  pub each : (i : ℕ) → k ≤ i → i < n → RobustSet (at arcs) (at solid) (suc i) (getD sets i 0)
+  pub before : (i : ℕ) → i < k → getD sets i 0 ≡ 0
+  pub after : (i : ℕ) → n ≤ i → i < 64 → getD sets i 0 ≡ 0
 
 pub found-none : (arcs solid : List ℕ) (n : ℕ) → n ≤ 64 → Robust-from arcs solid (replicate 64 0) n n
 found-none arcs solid n small =

@@ -9,7 +9,7 @@ pub const NUMBER: u32 = 4_000_000_007;
 
 pub const SHORE: u64 = 9_000_000_000_000_000_011;
 
-pub const LEVEL: i32 = 2_000_000_011;
+const LEVEL: i32 = 2_000_000_011;
 
 pub struct Lists {
     pub rows: [u32; 256],
@@ -25,7 +25,7 @@ pub struct Tried {
 }
 
 // The lists with a mark in every place.
-fn marked() -> Lists
+pub fn marked() -> Lists
     ensures { λ r. ⌜ (length (r .rows) ≡ 256) × (length (r .shores) ≡ 126) × (length (r .weights) ≡ 126) × (length (r .levels) ≡ 64) ⌝ }
 {
     Lists {

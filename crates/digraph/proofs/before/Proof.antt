@@ -1,4 +1,4 @@
--- `digraph::before` finds a junction one arc before y and one less far. The invariant: x is a junction, and one that there is is x or a later one (Ahead). The measure is 65 - x. Assumes nothing.
+-- `digraph::before` finds a junction one arc before y and one less far. The invariant: x is a junction, and one that there is is x or a later one (Before-from). The measure is 65 - x. Assumes nothing.
 use mathlib.Core.Path.{sym, _∙_}
 use Prim.Native.Nat.{_≤_, _-_}
 use native.Mathlib.Omega.{arith}

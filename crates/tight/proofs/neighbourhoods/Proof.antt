@@ -1,9 +1,8 @@
--- `tight::neighbourhoods` gives the tight neighbourhood of each junction, the last first. The invariant: k is at most n, from junction k + 1 on the sets are found, and the others are empty (Found). The measure is k. Assumes nothing.
+-- `tight::neighbourhoods` gives the tight neighbourhood of each junction, the last first. The invariant: k is at most n, from junction k + 1 on the sets are found, and the others are empty (Robust-from). The measure is k. Assumes nothing.
 use Prim.Native.Nat.{_≤_}
 use native.Mathlib.Omega.{arith}
-use Rattle.growth.specs.Growth.{Robust-from}
 use Rattle.columns.specs.Columns.{flagged}
-use Rattle.tight.proofs.Each.{found-none, found-more, found-known, found-all}
+use Rattle.tight.proofs.Each.{Robust-from, found-none, found-more, found-known, found-all}
 use borrow.Author.Needs.{needs}
 use Rattle.tight.proofs.neighbourhoods.Statement.{statement}
 use Rattle.tight.proofs.neighbourhoods.Tie as tie

@@ -1,4 +1,4 @@
--- `sets::extended` gives the set that is gathered from one junction more. Assumes nothing.
+-- `cuts::sets::extended` gives the set that is gathered from one junction more. Assumes nothing.
 use mathlib.Core.Path.{sym, _∙_}
 use Rattle.cuts.proofs.Gathering.{gather-with, gather-without}
 use borrow.Author.Needs.{needs}

@@ -1,4 +1,4 @@
--- `sets::holders` gathers the junctions whose set holds junction a. The invariant: the set is gathered from the first k junctions. The measure is how many junctions are left. Assumes nothing.
+-- `cuts::sets::holders` gathers the junctions whose set holds junction a. The invariant: the set is gathered from the first k junctions. The measure is how many junctions are left. Assumes nothing.
 use mathlib.Core.Path.{_≡_, refl, sym, ap, _∙_}
 use mathlib.Core.Bool.{Bool}
 use mathlib.Core.List.{List}

@@ -1,4 +1,4 @@
--- `sets::mates` puts each junction's mates in its place. The invariant: the first k places have the mates of their junctions. The measure is how many junctions are left. Assumes nothing.
+-- `cuts::sets::mates` puts each junction's mates in its place. The invariant: the first k places have the mates of their junctions. The measure is how many junctions are left. Assumes nothing.
 use mathlib.Core.Path.{_≡_, refl, ap, _∙_}
 use Prim.Native.Nat.{ℕ, _≤_, _-_, _+_}
 use native.Mathlib.Omega.{arith}

@@ -1,4 +1,4 @@
--- `sets::mates_of` gives the mates of junction a: the junctions of its set and those whose set holds it. Assumes nothing.
+-- `cuts::sets::mates_of` gives the mates of junction a: the junctions of its set and those whose set holds it. Assumes nothing.
 use mathlib.Core.Path.{ap, ap₂, _∙_}
 use Prim.Native.Nat.{ℕ}
 use lib.Bits.{bitAnd, bitOr}

@@ -1,4 +1,4 @@
--- `sets::nearer` gives the next value once one more value is known: the best so far, unless the value is over `low` and is the first or less than it. Assumes nothing.
+-- `cuts::sets::nearer` gives the next value once one more value is known: the best so far, unless the value is over `low` and is the first or less than it. Assumes nothing.
 use native.Mathlib.Omega.{arith}
 use Rattle.cuts.proofs.Nearer.{next-under, next-over, next-first, next-less}
 use Rattle.cuts.proofs.sets.nearer.Statement.{statement}

@@ -1,4 +1,4 @@
--- `sets::next_value` finds the next value over `low`. The invariant: the best so far is the next value of the first k junctions. The measure is how many junctions are left. Assumes nothing.
+-- `cuts::sets::next_value` finds the next value over `low`. The invariant: the best so far is the next value of the first k junctions. The measure is how many junctions are left. Assumes nothing.
 use mathlib.Core.Path.{_≡_}
 use Prim.Native.Nat.{_≤_, _-_}
 use native.Mathlib.Omega.{arith}

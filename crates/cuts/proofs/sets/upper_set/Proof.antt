@@ -1,4 +1,4 @@
--- `sets::upper_set` gathers the junctions whose potential is at least the threshold. The invariant: the set is gathered from the first k junctions. The measure is how many junctions are left. Assumes nothing.
+-- `cuts::sets::upper_set` gathers the junctions whose potential is at least the threshold. The invariant: the set is gathered from the first k junctions. The measure is how many junctions are left. Assumes nothing.
 use mathlib.Core.Path.{_≡_, refl, ap, _∙_}
 use mathlib.Core.Bool.{Bool}
 use mathlib.Core.List.{List}

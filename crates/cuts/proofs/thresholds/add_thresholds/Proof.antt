@@ -1,4 +1,4 @@
--- `thresholds::add_thresholds` adds the shores of every upper set of the potential. The invariant: the places filled so far are those of all thresholds up to `low`. The measure is how far `low` is below 2^32: the next value is higher, and no value is over the top. Assumes nothing.
+-- `cuts::thresholds::add_thresholds` adds the shores of every upper set of the potential. The invariant: the places filled so far are those of all thresholds up to `low`. The measure is how far `low` is below 2^32: the next value is higher, and no value is over the top. Assumes nothing.
 use Prim.Native.Nat.{ℕ, _-_, _^_, _≤_, _<_}
 use native.Mathlib.Omega.{arith}
 use Rattle.laws.specs.Lists.{at}

@@ -1,4 +1,4 @@
--- `thresholds::fill` fills the first places with the cuts of the potential: what the columns of links and mates weigh is the weight of the potential. Assumes nothing.
+-- `cuts::thresholds::fill` fills the first places with the cuts of the potential: what the columns of links and mates weigh is the weight of the potential. Assumes nothing.
 use native.Mathlib.Omega.{arith}
 use Rattle.cuts.specs.Beside.{highest}
 use Rattle.cuts.proofs.Beside.{beside-links, beside-mates, beside-fits, beside-filled}
