@@ -61,13 +61,13 @@ refusal n p = record { number = n; place = p }
 unfoldable pub or-else : Refusal → Refusal → Refusal
 or-else a b = cond (eqb (a .number) 0) b a
 
--- 6, 7 or 8 for a row, or 0
+-- 6 or 8 for a row, or 0
 unfoldable pub row-number : (n : ℕ) → Row → ℕ
 row-number n r =
     cond (not ((leb 1 (r .from) && leb (r .from) n) && (leb 1 (r .to) && leb (r .to) n))) 6
-    (cond (eqb (r .from) (r .to)) 7 (cond (ltb 1000000 (r .price)) 8 0))
+    (cond (ltb 1000000 (r .price)) 8 0)
 
--- the first refusal of 6, 7 and 8, row by row from row i on
+-- the first refusal of 6 and 8, row by row from row i on
 unfoldable pub rows-refusal : (i n : ℕ) → List Row → Refusal
 rows-refusal i n [] = refusal 0 0
 rows-refusal i n (r ∷ rs) = cond (eqb (row-number n r) 0) (rows-refusal (suc i) n rs) (refusal (row-number n r) i)

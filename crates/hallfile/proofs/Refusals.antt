@@ -4,7 +4,7 @@ use mathlib.Core.Bool.{Bool, true, false, _&&_, not}
 use mathlib.Core.List.{List, _∷_}
 use Prim.Native.Nat.{ℕ, suc, _<_, _≤_}
 use lib.Dec.{eqb, leb, ltb}
-use borrow.Author.Tests.{eq-eqb, ne-eqb, lt-ltb, le-ltb, leb-true, eqb-true, eqb-false, ltb-true, ltb-false, not-true, not-false}
+use borrow.Author.Tests.{lt-ltb, le-ltb, leb-true, ltb-true, ltb-false, not-true, not-false}
 use Rattle.laws.proofs.Booleans.{by-bool, clash, and-l, and-r}
 use Rattle.hall.specs.Hall.{Row}
 use Rattle.hall.specs.File.{Refusal, refusal, row-number, rows-refusal}
@@ -29,17 +29,13 @@ module _ (i n : ℕ) (r : Row) where
   unfolding row-refusal row-number
   refuse-ends t = rw (not-true (ends-good n r) t)
 
-  pub refuse-loop : not (ends-good n r) ≡ false → r .from ≡ r .to → row-refusal i n r ≡ refusal 7 i
+  pub refuse-price : not (ends-good n r) ≡ false → 1000000 < r .price → row-refusal i n r ≡ refusal 8 i
   unfolding row-refusal row-number
-  refuse-loop t e = rw (not-false (ends-good n r) t, eq-eqb (r .from) (r .to) e)
+  refuse-price t p = rw (not-false (ends-good n r) t, lt-ltb 1000000 (r .price) p)
 
-  pub refuse-price : not (ends-good n r) ≡ false → (r .from ≡ r .to → ⊥) → 1000000 < r .price → row-refusal i n r ≡ refusal 8 i
+  pub refuse-none : not (ends-good n r) ≡ false → r .price ≤ 1000000 → row-refusal i n r ≡ refusal 0 0
   unfolding row-refusal row-number
-  refuse-price t e p = rw (not-false (ends-good n r) t, ne-eqb (r .from) (r .to) e, lt-ltb 1000000 (r .price) p)
-
-  pub refuse-none : not (ends-good n r) ≡ false → (r .from ≡ r .to → ⊥) → r .price ≤ 1000000 → row-refusal i n r ≡ refusal 0 0
-  unfolding row-refusal row-number
-  refuse-none t e p = rw (not-false (ends-good n r) t, ne-eqb (r .from) (r .to) e, le-ltb 1000000 (r .price) p)
+  refuse-none t p = rw (not-false (ends-good n r) t, le-ltb 1000000 (r .price) p)
 
   refused-number : (b : Bool) → eqb (row-number n r) 0 ≡ b → eqb (row-refusal i n r .number) 0 ≡ b
   unfolding row-refusal refusal
@@ -63,10 +59,8 @@ module _ (i n : ℕ) (r : Row) where
   fine-row t =
       by-bool (ends-good n r)
       (λ e.
-      by-bool (eqb (r .from) (r .to)) (λ f. clash t (ap number-is (refuse-loop (ap not e) (eqb-true (r .from) (r .to) f))))
-      (λ f.
-      by-bool (ltb 1000000 (r .price)) (λ g. clash t (ap number-is (refuse-price (ap not e) (eqb-false (r .from) (r .to) f) (ltb-true 1000000 (r .price) g))))
-      (λ g. (e, ltb-false 1000000 (r .price) g))))
+      by-bool (ltb 1000000 (r .price)) (λ g. clash t (ap number-is (refuse-price (ap not e) (ltb-true 1000000 (r .price) g))))
+      (λ g. (e, ltb-false 1000000 (r .price) g)))
       (λ e. clash t (ap number-is (refuse-ends (ap not e))))
     where
       number-is : Refusal → Bool

@@ -7,7 +7,7 @@ use lib.ListN.{length}
 use Rattle.hall.specs.Hall.{Row, count}
 use Rattle.hall.specs.File.{Refusal, refusal, field, blocks, pairs-good, hall-in, row-number, rows-refusal}
 
--- 6, 7 or 8 for row i, or none
+-- 6 or 8 for row i, or none
 unfoldable pub row-refusal : (i n : ℕ) → Row → Refusal
 row-refusal i n r = cond (eqb (row-number n r) 0) (refusal 0 0) (refusal (row-number n r) i)
 

@@ -15,20 +15,18 @@ ghost use Rattle.filerows.specs.Places.{Table};
 ghost use Rattle.hallfile.specs.Record.{Replies};
 ghost use Rattle.hallfile.specs.Shape.{row-refusal};
 
-// 6, 7 or 8 for row i of a hall of n junctions, or none.
+// 6 or 8 for row i of a hall of n junctions, or none.
 pub fn lane_refusal(n: usize, lane: Lane, i: u32) -> Kind
     ensures { λ r. ⌜ refusal-of r ≡ row-refusal i n (row-of (lane .from) (lane .to) (lane .price)) ⌝ }
 {
     let from = lane.from;
     let to = lane.to;
+    let price = lane.price;
     let last = n as u64;
     if !(((1 <= from) & (from <= last)) & ((1 <= to) & (to <= last))) {
         return Kind::RowEnds(i);
     }
-    if from == to {
-        return Kind::RowLoop(i);
-    }
-    if HallRecord::PRICE < lane.price {
+    if HallRecord::PRICE < price {
         return Kind::RowPrice(i);
     }
     Kind::None

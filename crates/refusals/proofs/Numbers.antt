@@ -1,13 +1,13 @@
--- What a kind's number says of its row, and a kind's test of the refusal that it is. Assumes nothing.
+-- What a kind's number says of its row, that no kind's number is 7, and what a kind's test says of the refusal that it is. Assumes nothing.
 use mathlib.Core.Path.{_≡_, refl, sym, ap, _∙_}
 use mathlib.Core.Bool.{Bool, true, false, not}
 use lib.Dec.{eqb}
-use borrow.Author.Tests.{not-true, not-false}
+use borrow.Author.Tests.{eqb-false, not-true, not-false}
 use Rattle.laws.proofs.Booleans.{clash}
 use Rattle.hall.specs.File.{Refusal, refusal}
 use Rattle.refusals.specs.declared.Kind.{Kind}
-use Rattle.refusals.specs.declared.Kind.the-variants.{None, ListShort, FileLength, JunctionCount, Blocks, RowCount, RowEnds, RowLoop, RowPrice, Unjoined, Choice, RouteEnd, Site, HallCount, KitStock, FixedCut, LoadWidth, SitePlace, Bridge, FixedRow, LoneRow}
-use Rattle.refusals.specs.Kinds.{refusal-of}
+use Rattle.refusals.specs.declared.Kind.the-variants.{None, ListShort, FileLength, JunctionCount, Blocks, RowCount, RowEnds, RowPrice, Unjoined, Choice, RouteEnd, Site, HallCount, KitStock, FixedCut, LoadWidth, SitePlace, Bridge, FixedRow, LoneRow}
+use Rattle.refusals.specs.Kinds.{refusal-of, Seven-unused}
 
 -- a kind without a number carries no row
 pub kind-none : (k : Kind) → eqb (refusal-of k .number) 0 ≡ true → refusal-of k ≡ refusal 0 0
@@ -19,7 +19,6 @@ kind-none JunctionCount t = clash t refl
 kind-none Blocks t = clash t refl
 kind-none RowCount t = clash t refl
 kind-none (RowEnds i) t = clash t refl
-kind-none (RowLoop i) t = clash t refl
 kind-none (RowPrice i) t = clash t refl
 kind-none Unjoined t = clash t refl
 kind-none Choice t = clash t refl
@@ -33,6 +32,33 @@ kind-none SitePlace t = clash t refl
 kind-none Bridge t = clash t refl
 kind-none FixedRow t = clash t refl
 kind-none LoneRow t = clash t refl
+
+not-seven : (k : Kind) → eqb (refusal-of k .number) 7 ≡ false
+unfolding refusal-of refusal
+not-seven None = refl
+not-seven ListShort = refl
+not-seven FileLength = refl
+not-seven JunctionCount = refl
+not-seven Blocks = refl
+not-seven RowCount = refl
+not-seven (RowEnds i) = refl
+not-seven (RowPrice i) = refl
+not-seven Unjoined = refl
+not-seven Choice = refl
+not-seven RouteEnd = refl
+not-seven Site = refl
+not-seven HallCount = refl
+not-seven KitStock = refl
+not-seven FixedCut = refl
+not-seven LoadWidth = refl
+not-seven SitePlace = refl
+not-seven Bridge = refl
+not-seven FixedRow = refl
+not-seven LoneRow = refl
+
+pub seven-unused : Seven-unused
+unfolding Seven-unused
+seven-unused k = eqb-false (refusal-of k .number) 7 (not-seven k)
 
 -- what a kind's test says of the refusal that it is
 pub is-refused : (k : Kind) (w : Refusal) (b : Bool) → refusal-of k ≡ w → b ≡ eqb (refusal-of k .number) 0 → not b ≡ true → eqb (w .number) 0 ≡ false

@@ -12,7 +12,6 @@ pub enum Kind {
     Blocks,
     RowCount,
     RowEnds(u32),
-    RowLoop(u32),
     RowPrice(u32),
     Unjoined,
     Choice,
@@ -48,7 +47,6 @@ pub fn number_of(kind: Kind) -> u32
         Kind::Blocks => 4,
         Kind::RowCount => 5,
         Kind::RowEnds(_) => 6,
-        Kind::RowLoop(_) => 7,
         Kind::RowPrice(_) => 8,
         Kind::Unjoined => 9,
         Kind::Choice => 10,
@@ -71,7 +69,6 @@ pub fn row_of(kind: Kind) -> u32
 {
     match kind {
         Kind::RowEnds(row) => row,
-        Kind::RowLoop(row) => row,
         Kind::RowPrice(row) => row,
         _ => 0,
     }

@@ -35,12 +35,12 @@ fn below(x: u64, bound: u64) -> u64
     x % bound
 }
 
-// Two different junctions of the first n, by a code.
+// Two junctions of the first n, by a code; the same one twice for a loop.
 fn ends_of(n: u64, code: u64) -> Ends
-    requires { ⌜ (2 ≤ n) × (n ≤ 6) ⌝ }
+    requires { ⌜ (1 ≤ n) × (n ≤ 6) ⌝ }
 {
     let from = below(code, n);
-    let to = below(from + 1 + below(code / n, n - 1), n);
+    let to = below(code / n, n);
     Ends {
         from: (from + 1) as u8,
         to: (to + 1) as u8,
@@ -72,7 +72,7 @@ fn with_row(hall: Small, ends: Ends, price: u64) -> Small
 
 // The hall of a number: its digits, in the base of how many rows can be drawn, are the rows.
 pub fn of_number(n: usize, count: usize, prices: u64, number: u64) -> Numbered
-    requires { ⌜ (2 ≤ n) × (n ≤ 6) × (count ≤ 10) × (1 ≤ prices) × (prices ≤ 256) ⌝ }
+    requires { ⌜ (1 ≤ n) × (n ≤ 6) × (count ≤ 10) × (1 ≤ prices) × (prices ≤ 256) ⌝ }
     ensures { λ r. ⌜ (r .hall .n ≤ 6) × (r .hall .count ≤ 10) ⌝ }
 {
     let junctions = n as u64;
@@ -80,7 +80,7 @@ pub fn of_number(n: usize, count: usize, prices: u64, number: u64) -> Numbered
     let mut left = number;
     let mut i: usize = 0;
     while i < count {
-        let rest = left / junctions / (junctions - 1);
+        let rest = left / junctions / junctions;
         hall = with_row(hall, ends_of(junctions, left), below(rest, prices));
         left = rest / prices;
         i += 1;
@@ -101,9 +101,9 @@ fn price_bound(x: u64) -> u64
     }
 }
 
-// The ends of a row: any, for a third of the halls; upward, for a third; upward but for one in eight, for the others.
+// The ends of a row: any, for a third of the halls; upward or a loop, for a third; so but for one in eight, for the others.
 fn random_ends(n: u64, kind: u64, x: u64) -> Ends
-    requires { ⌜ (2 ≤ n) × (n ≤ 6) ⌝ }
+    requires { ⌜ (1 ≤ n) × (n ≤ 6) ⌝ }
 {
     let ends = ends_of(n, x / 8);
     if kind % 3 == 0 {
@@ -115,12 +115,12 @@ fn random_ends(n: u64, kind: u64, x: u64) -> Ends
     upward(ends)
 }
 
-// A random hall of 2 to 6 junctions and up to 10 rows, enough for a tree.
+// A random hall of 1 to 6 junctions and up to 10 rows, enough for a tree.
 pub fn random(start: u64) -> Drawn
     ensures { λ r. ⌜ (r .hall .n ≤ 6) × (r .hall .count ≤ 10) ⌝ }
 {
     let kind = next_of(start);
-    let n = 2 + below(kind / 16, 5);
+    let n = 1 + below(kind / 16, 6);
     let count = n - 1 + below(kind / 128, 12 - n);
     let prices = price_bound(kind / 4096);
     let mut hall = without_rows(n as usize);

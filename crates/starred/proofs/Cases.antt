@@ -1,4 +1,4 @@
--- THE STARRED HALLS: each answers as document 01 expects. One computed test over the list, and a law that turns a passed test into the facts. Assumes nothing.
+-- THE STARRED HALLS, and halls with loops: each answers as expected. One computed test over each list, and a law that turns a passed test into the facts. Assumes nothing.
 use mathlib.Core.Path.{_≡_, refl}
 use mathlib.Core.Bool.{true}
 use mathlib.Core.List.{List}
@@ -15,7 +15,7 @@ use Rattle.hall.specs.Plan.{total, earlier, goes-before, Cut, cut, crosses-from
 use Rattle.joining.specs.Promise.{all-bytes, accepted}
 use Rattle.starred.specs.Layout.{bytes-of, rows-bytes, blocks-bytes, file-of}
 use Rattle.starred.specs.Trying.{every-ascending, not-after, is-first, is-beside, same-row, same-hall, same-refusal, same-signed, is-some}
-use Rattle.starred.specs.Cases.{Starred-hold, Expected, refused, opens, ties, misses, Case, Accepted, Planned-as, Ties, Misses, Answers, Says, accepted-tests, opens-tests, ties-tests, misses-tests, answered, case-tests, holds-of, drawn, junctions-of, printed-hall, printed-file, printed, square, starred}
+use Rattle.starred.specs.Cases.{Starred-hold, Looped-hold, Expected, refused, opens, ties, misses, Case, Accepted, Planned-as, Ties, Misses, Answers, Says, accepted-tests, opens-tests, ties-tests, misses-tests, answered, case-tests, holds-of, drawn, junctions-of, printed-hall, printed-file, printed, square, starred, looped}
 use Rattle.starred.proofs.Same.{hall-same, refusal-same, levels-same, some-same}
 use Rattle.starred.proofs.Trying.{first-by-trying, beside-by-test}
 
@@ -83,17 +83,21 @@ says-by-test k e =
 pub cases-by-test : (ks : List Case) → all-in holds-of ks ≡ true → Each Says ks
 cases-by-test = each-in holds-of Says says-by-test
 
--- the test, computed over the whole list
-starred-pass : all-in holds-of starred ≡ true
+-- the test, computed over both lists
+cases-pass : (all-in holds-of starred ≡ true) × (all-in holds-of looped ≡ true)
 unfolding all-in all-of same-list holds with-junction
     row-of hall row count enters leaves any-leaves is-cut ascends-from is-choice member over-rows spread reached first-short missed is-none joins
     value field blocks offset long-of pairs-good rows-at all-rows hall-in refusal or-else row-number rows-refusal all-numbers connected hall-refusal
     total earlier goes-before cut crosses-from cross none-cross cuts-good load loads-fit weight-sum most-cuts level-sum difference levels-from levels
     all-bytes accepted bytes-of rows-bytes blocks-bytes file-of
     every-ascending not-after is-first is-beside same-row same-hall same-refusal same-signed is-some
-    accepted-tests opens-tests ties-tests misses-tests answered case-tests holds-of drawn junctions-of printed-hall printed-file printed square starred
-starred-pass = refl
+    accepted-tests opens-tests ties-tests misses-tests answered case-tests holds-of drawn junctions-of printed-hall printed-file printed square starred looped
+cases-pass = (refl, refl)
 
 pub starred-hold : Starred-hold
 unfolding Starred-hold
-starred-hold = cases-by-test starred starred-pass
+starred-hold = cases-by-test starred (cases-pass .0)
+
+pub looped-hold : Looped-hold
+unfolding Looped-hold
+looped-hold = cases-by-test looped (cases-pass .1)

@@ -1,4 +1,4 @@
--- The starred halls of document 01: what is expected of each, what that says, and a test for it. Assumes nothing: these are definitions.
+-- The starred halls of document 01, and halls with loops: what is expected of each, what that says, and a test for it. Assumes nothing: these are definitions.
 use mathlib.Core.Path.{_≡_}
 use mathlib.Core.Bool.{Bool, true, _&&_}
 use mathlib.Core.List.{List, [], _∷_}
@@ -15,7 +15,7 @@ use Rattle.joining.specs.Promise.{all-bytes, accepted}
 use Rattle.starred.specs.Layout.{file-of}
 use Rattle.starred.specs.Trying.{is-first, is-beside, same-hall, same-refusal, same-signed, is-some}
 
--- what document 01 expects of a hall
+-- what is expected of a hall
 pub data Expected : Type 0 where
   -- a refusal, with its number and its row or 0
   refused : (number place : ℕ) → Expected
@@ -148,6 +148,24 @@ starred =
     ∷ drawn (hall 2 (row-of 3 3 0 ∷ [])) (refused 6 1)
     ∷ []
 
+-- HALLS WITH LOOPS, which document 01 turned back with 7: read, numbered, checked by 6 and 8, opened by no plan, idle in a choice
+unfoldable pub looped : List Case
+looped =
+    drawn (hall 1 (row-of 1 1 0 ∷ [])) (opens [] 0 [] (pos 0 ∷ []))
+    ∷ drawn (hall 1 (row-of 1 1 5 ∷ row-of 1 1 0 ∷ [])) (opens [] 0 [] (pos 0 ∷ []))
+    ∷ drawn (hall 2 (row-of 1 2 7 ∷ row-of 2 2 1 ∷ [])) (opens (1 ∷ []) 7 (cut (junctions-of (2 ∷ [])) 7 ∷ []) (pos 0 ∷ pos 7 ∷ []))
+    ∷ drawn (hall 2 (row-of 1 1 0 ∷ row-of 1 2 7 ∷ [])) (opens (2 ∷ []) 7 (cut (junctions-of (2 ∷ [])) 7 ∷ []) (pos 0 ∷ pos 7 ∷ []))
+    ∷ drawn (hall 2 (row-of 1 1 0 ∷ row-of 1 2 7 ∷ [])) (ties (2 ∷ []) (1 ∷ 2 ∷ []))
+    ∷ drawn (hall 3 (row-of 1 2 1 ∷ row-of 2 2 0 ∷ row-of 2 3 1 ∷ [])) (misses (1 ∷ 2 ∷ []) (junctions-of (3 ∷ [])))
+    ∷ drawn (hall 2 (row-of 1 1 0 ∷ row-of 2 2 0 ∷ [])) (refused 9 0)
+    ∷ drawn (hall 2 (row-of 1 1 0 ∷ row-of 2 2 1000001 ∷ [])) (refused 8 2)
+    ∷ drawn (hall 2 (row-of 1 1 0 ∷ row-of 3 3 1000001 ∷ [])) (refused 6 2)
+    ∷ []
+
 -- THE STARRED HALLS HOLD: each says what is expected of it
 unfoldable pub Starred-hold : Type 0
 Starred-hold = Each Says starred
+
+-- THE HALLS WITH LOOPS HOLD: so does each of these
+unfoldable pub Looped-hold : Type 0
+Looped-hold = Each Says looped

@@ -48,7 +48,7 @@ fn print_tally(tally: Tally) {
 
 // Every hall of n junctions and a number of rows, of prices below a bound.
 fn of_size(tally: Tally, n: usize, rows: usize, prices: u64) -> Tally
-    requires { ⌜ (2 ≤ n) × (n ≤ 6) × (rows ≤ 10) × (1 ≤ prices) × (prices ≤ 256) ⌝ }
+    requires { ⌜ (1 ≤ n) × (n ≤ 6) × (rows ≤ 10) × (1 ≤ prices) × (prices ≤ 256) ⌝ }
 {
     let mut next = tally;
     let mut number: u64 = 0;
@@ -65,7 +65,7 @@ fn of_size(tally: Tally, n: usize, rows: usize, prices: u64) -> Tally
 }
 
 fn try_all(n: usize, rows: usize, prices: u64)
-    requires { ⌜ (2 ≤ n) × (n ≤ 6) × (rows ≤ 10) × (1 ≤ prices) × (prices ≤ 256) ⌝ }
+    requires { ⌜ (1 ≤ n) × (n ≤ 6) × (rows ≤ 10) × (1 ≤ prices) × (prices ≤ 256) ⌝ }
 {
     let mut tally = counted(NONE, smallhalls::without_rows(n));
     let mut count: usize = 1;
@@ -95,6 +95,7 @@ fn try_random(halls: u64, start: u64) {
 }
 
 fn main() {
+    try_all(1, 5, 3);
     try_all(2, 5, 3);
     try_all(3, 4, 3);
     try_all(3, 5, 2);

@@ -2,7 +2,7 @@
 //! `compare [TIMES]` tries so many times as many random halls.
 
 use compare::{check_and_tight, first_plan, plan, planners, short_lists, small_plan, Planner};
-use halls::{all_halls, damaged, full_hall, random_files, random_hall, sized_files, starred, KINDS};
+use halls::{all_halls, damaged, full_hall, looped_hall, random_files, random_hall, sized_files, starred, Kind, KINDS};
 
 type Test = fn(&Planner, &[u8], u64) -> Result<(), String>;
 
@@ -32,8 +32,10 @@ const ALL: Test = |planner, file, seed| {
     check_and_tight(planner, file, seed)
 };
 
-fn full_halls(n: usize, seeds: u64) -> impl Iterator<Item = Vec<u8>> {
-    KINDS.into_iter().flat_map(move |kind| (0..seeds).map(move |seed| full_hall(kind, n, seed)))
+type Draw = fn(Kind, usize, u64) -> Vec<u8>;
+
+fn of_kinds(draw: Draw, n: usize, seeds: u64) -> impl Iterator<Item = Vec<u8>> {
+    KINDS.into_iter().flat_map(move |kind| (0..seeds).map(move |seed| draw(kind, n, seed)))
 }
 
 fn suites(times: u64) -> Vec<Suite> {
@@ -44,7 +46,9 @@ fn suites(times: u64) -> Vec<Suite> {
         suite("damaged files", (0..40).flat_map(|seed| damaged(&random_hall(6, 10, seed), seed)), ALL),
         suite("random files of every length", random_files(2_500, 7), ALL),
     ];
-    for (n, rows, prices) in [(1, 0, 1), (2, 0, 1), (2, 1, 4), (2, 2, 4), (2, 3, 4), (3, 2, 3), (3, 3, 3), (4, 3, 2)] {
+    for (n, rows, prices) in
+        [(1, 0, 1), (1, 1, 4), (1, 3, 3), (2, 0, 1), (2, 1, 4), (2, 2, 4), (2, 3, 4), (3, 2, 3), (3, 3, 3), (4, 3, 2)]
+    {
         let what = format!("all halls: {n} junctions, {rows} rows, prices below {prices}");
         suites.push(suite(what, all_halls(n, rows, prices), ALL_OF_SMALL));
     }
@@ -61,14 +65,16 @@ fn suites(times: u64) -> Vec<Suite> {
         suites.push(suite(format!("certificates of halls up to {n} junctions and {rows} rows"), files(count), PLAN));
         suites.push(suite(format!("first choices, up to {n} junctions and {rows} rows"), files(fewer), FIRST_PLAN));
     }
-    suites.push(suite("full halls of 8 junctions", full_halls(8, 12 * times), ALL_OF_SMALL));
-    for n in [16, 32, 64] {
-        suites.push(suite(format!("full halls of {n} junctions"), full_halls(n, 12 * times), ALL));
-        suites.push(suite(
-            format!("first choices, full halls of {n} junctions"),
-            full_halls(n, 36 * times),
-            FIRST_PLAN,
-        ));
+    for (what, draw) in [("full halls", full_hall as Draw), ("full halls with loops", looped_hall)] {
+        suites.push(suite(format!("{what}, 8 junctions"), of_kinds(draw, 8, 12 * times), ALL_OF_SMALL));
+        for n in [16, 32, 64] {
+            suites.push(suite(format!("{what}, {n} junctions"), of_kinds(draw, n, 12 * times), ALL));
+            suites.push(suite(
+                format!("first choices, {what}, {n} junctions"),
+                of_kinds(draw, n, 36 * times),
+                FIRST_PLAN,
+            ));
+        }
     }
     suites
 }

@@ -32,12 +32,27 @@ impl Kind {
 
 /// The hall file; n is a power of 2 from 8 to 64. Seeds go round through dear prices, few prices and one price.
 pub fn full_hall(kind: Kind, n: usize, seed: u64) -> Vec<u8> {
+    drawn(kind, n, seed, further)
+}
+
+/// The same with loops: one in four of the rows beyond those that make the hall one piece.
+pub fn looped_hall(kind: Kind, n: usize, seed: u64) -> Vec<u8> {
+    drawn(kind, n, seed, |kind, n, random| match random.below(4) {
+        0 => {
+            let j = random.below(n);
+            (j, j)
+        }
+        _ => further(kind, n, random),
+    })
+}
+
+fn drawn(kind: Kind, n: usize, seed: u64, more: fn(Kind, usize, &mut Random) -> (usize, usize)) -> Vec<u8> {
     let mut random = Random::new(seed * 64 + n as u64);
     let most = [1_000_000, 9, 1][(seed % 3) as usize];
     let least = if most == 1 { 1 } else { 0 };
     let mut ends = frame(kind, n, &mut random);
     while ends.len() < 4 * n {
-        ends.push(further(kind, n, &mut random));
+        ends.push(more(kind, n, &mut random));
     }
     for i in (1..ends.len()).rev() {
         ends.swap(i, random.below(i + 1));

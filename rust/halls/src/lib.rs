@@ -6,7 +6,7 @@ mod random;
 mod small;
 
 pub use damaged::{damaged, random_files, sized_files};
-pub use full::{full_hall, Kind, KINDS};
+pub use full::{full_hall, looped_hall, Kind, KINDS};
 pub use random::Random;
 pub use small::{all_halls, random_hall, starred};
 

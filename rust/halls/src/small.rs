@@ -21,9 +21,9 @@ pub fn starred() -> Vec<Vec<u8>> {
     halls.iter().map(|(n, rows)| hall_file(*n, rows)).collect()
 }
 
-/// Every hall of n junctions with so many rows, each of a price below `prices`.
+/// Every hall of n junctions with so many rows, loops among them, each of a price below `prices`.
 pub fn all_halls(n: u16, rows: u32, prices: u32) -> impl Iterator<Item = Vec<u8>> {
-    let ends: Vec<(u16, u16)> = (1..=n).flat_map(|a| (1..=n).map(move |b| (a, b))).filter(|(a, b)| a != b).collect();
+    let ends: Vec<(u16, u16)> = (1..=n).flat_map(|a| (1..=n).map(move |b| (a, b))).collect();
     let kinds: Vec<Row> = ends.iter().flat_map(|&(a, b)| (0..prices).map(move |price| (a, b, price))).collect();
     let count = kinds.len() as u64;
     (0..count.pow(rows)).map(move |code| {
@@ -32,8 +32,8 @@ pub fn all_halls(n: u16, rows: u32, prices: u32) -> impl Iterator<Item = Vec<u8>
     })
 }
 
-/// Up to so many junctions and rows, in blocks of 4 to 12 rows, with many ties, parallel rows and price 0. Rows run from
-/// lower to higher junctions, or from odd to even ones first, and some are turned.
+/// Up to so many junctions and rows, in blocks of 4 to 16 rows, with many ties, parallel rows, loops and price 0. Rows run
+/// from lower to higher junctions, or from odd to even ones first, and some are turned.
 pub fn random_hall(most_junctions: usize, most_rows: usize, seed: u64) -> Vec<u8> {
     let mut random = Random::new(seed);
     let n = random.within(1, most_junctions);
@@ -41,7 +41,7 @@ pub fn random_hall(most_junctions: usize, most_rows: usize, seed: u64) -> Vec<u8
     let turned_of_8 = random.pick(&[0, 0, 1, 4]);
     let odd_first = random.below(2) == 1;
     let rank = |j: usize| (odd_first && j.is_multiple_of(2), j);
-    let count = if n == 1 { 0 } else { random.within(n - 1, most_rows) };
+    let count = random.within(n - 1, most_rows);
     let mut rows: Vec<Row> = Vec::new();
     while rows.len() < count {
         let (a, b) = match rows.len() + 2 {
@@ -49,10 +49,8 @@ pub fn random_hall(most_junctions: usize, most_rows: usize, seed: u64) -> Vec<u8
             _ => (random.within(1, n), random.within(1, n)),
         };
         let turned = random.below(8) < turned_of_8;
-        if a != b {
-            let (from, to) = if (rank(a) < rank(b)) != turned { (a, b) } else { (b, a) };
-            rows.push((from as u16, to as u16, random.within(0, dearest) as u32));
-        }
+        let (from, to) = if (rank(a) < rank(b)) != turned { (a, b) } else { (b, a) };
+        rows.push((from as u16, to as u16, random.within(0, dearest) as u32));
     }
     let rows = shuffled(&mut random, rows);
     in_blocks(&mut random, n as u16, &rows)
@@ -66,7 +64,7 @@ fn shuffled(random: &mut Random, mut rows: Vec<Row>) -> Vec<Row> {
 }
 
 fn in_blocks(random: &mut Random, n: u16, rows: &[Row]) -> Vec<u8> {
-    let size = random.within(4, 12);
+    let size = random.within(4, 12).max(rows.len().div_ceil(16));
     let blocks: Vec<&[Row]> = rows.chunks(size).collect();
     let remarks: Vec<usize> = blocks.iter().map(|_| random.pick(&[0, 0, 1, 5, 8])).collect();
     file_of_blocks(n, &blocks, &remarks)

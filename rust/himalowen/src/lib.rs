@@ -10,7 +10,7 @@ pub const ROW_PLACES: usize = 256;
 pub const CUT_PLACES: usize = 125;
 pub const LEVEL_PLACES: usize = 64;
 
-/// Why a call was turned back: 1 to 10 of the scope, and the row for 6, 7 and 8, else 0.
+/// Why a call was turned back: 1 to 10 without 7, and the row for 6 and 8, else 0.
 #[derive(Clone, Copy, Debug, PartialEq, Eq)]
 pub struct Refusal {
     pub number: u32,

@@ -53,9 +53,6 @@ fn row(bytes: &[u8], n: u64) -> Result<Row, u32> {
     if !(1..=n).contains(&row.from) || !(1..=n).contains(&row.to) {
         return Err(6);
     }
-    if row.from == row.to {
-        return Err(7);
-    }
     if row.price > 1_000_000 {
         return Err(8);
     }

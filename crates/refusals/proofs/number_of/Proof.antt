@@ -67,9 +67,6 @@ enum-told-19 c = search needs
 enum-told-20 : tie.Need-enum-told-20
 enum-told-20 c = search needs
 
-enum-told-21 : tie.Need-enum-told-21
-enum-told-21 c = search needs
-
 returns : tie.Need-returns
 unfolding refusal-of refusal
 returns c = ap (λ (k : Kind). refusal-of k .number) (sym (c .enum-told .given .1))
@@ -150,10 +147,6 @@ returns-20 : tie.Need-returns-20
 unfolding refusal-of refusal
 returns-20 c = ap (λ (k : Kind). refusal-of k .number) (sym (c .enum-told20 .given .1))
 
-returns-21 : tie.Need-returns-21
-unfolding refusal-of refusal
-returns-21 c = ap (λ (k : Kind). refusal-of k .number) (sym (c .enum-told21 .given .1))
-
 pub number-of-spec : {M : Type 1} → statement M
 number-of-spec =
     tie.close
@@ -178,7 +171,6 @@ number-of-spec =
     enum-told-18
     enum-told-19
     enum-told-20
-    enum-told-21
     returns
     returns-2
     returns-3
@@ -198,5 +190,4 @@ number-of-spec =
     returns-17
     returns-18
     returns-19
-    returns-20
-    returns-21)
+    returns-20)

@@ -1,18 +1,10 @@
--- `hallfile::rows::lane_refusal` gives the row's refusal: 6, 7 and 8 are tried in this order, and none is left where none is met. Assumes nothing.
+-- `hallfile::rows::lane_refusal` gives the row's refusal: 6 and 8 are tried in this order, and none is left where none is met. Assumes nothing.
 use mathlib.Core.Path.{sym}
 use Rattle.hall.specs.Hall.{row-of}
 use Rattle.refusals.specs.Kinds.{refusal-of}
-use Rattle.hallfile.proofs.Refusals.{refuse-ends, refuse-loop, refuse-price, refuse-none}
+use Rattle.hallfile.proofs.Refusals.{refuse-ends, refuse-price, refuse-none}
 use Rattle.hallfile.proofs.rows.lane_refusal.Statement.{statement}
 use Rattle.hallfile.proofs.rows.lane_refusal.Tie as tie
-
--- where 6 and 7 are not met
-module _ (k : tie.After-struct-known) where
-  abbrev apart : tie.Else2
-  apart = k .before
-
-  abbrev at-start : tie.Start
-  at-start = apart .before .before
 
 returns : tie.Need-returns
 unfolding refusal-of row-of
@@ -21,17 +13,12 @@ returns c = let a = c .before .args in let l = a .lane in sym (refuse-ends (a .i
 returns-2 : tie.Need-returns-2
 unfolding refusal-of row-of
 returns-2 c = let a = c .before .before .args in let l = a .lane in
-    sym (refuse-loop (a .i) (a .n) (row-of (l .from) (l .to) (l .price)) (c .before .if1 .left) (c .if2 .taken))
+    sym (refuse-price (a .i) (a .n) (row-of (l .from) (l .to) (l .price)) (c .before .if1 .left) (c .if2 .taken))
 
 returns-3 : tie.Need-returns-3
 unfolding refusal-of row-of
-returns-3 c = let k = c .before in let a = at-start k .args in let l = a .lane in
-    sym (refuse-price (a .i) (a .n) (row-of (l .from) (l .to) (l .price)) (apart k .before .if1 .left) (apart k .if2 .left) (c .if3 .taken))
-
-returns-4 : tie.Need-returns-4
-unfolding refusal-of row-of
-returns-4 c = let k = c .before in let a = at-start k .args in let l = a .lane in
-    sym (refuse-none (a .i) (a .n) (row-of (l .from) (l .to) (l .price)) (apart k .before .if1 .left) (apart k .if2 .left) (c .if3 .left))
+returns-3 c = let a = c .before .before .args in let l = a .lane in
+    sym (refuse-none (a .i) (a .n) (row-of (l .from) (l .to) (l .price)) (c .before .if1 .left) (c .if2 .left))
 
 pub lane-refusal-spec : {M : Type 1} → statement M
-lane-refusal-spec = tie.close (tie.spec returns returns-2 returns-3 returns-4)
+lane-refusal-spec = tie.close (tie.spec returns returns-2 returns-3)

@@ -20,9 +20,6 @@ loop-holds c = search needs
 div-rest : tie.Need-div-rest Inv-loop μ-loop
 div-rest c = search needs
 
-sub-rest : tie.Need-sub-rest Inv-loop μ-loop
-sub-rest c = search needs
-
 div-rest-2 : tie.Need-div-rest-2 Inv-loop μ-loop
 div-rest-2 c = search needs
 
@@ -59,7 +56,6 @@ of-number-spec =
     without-rows-requires
     loop-holds
     div-rest
-    sub-rest
     div-rest-2
     ends-of-requires
     below-requires

@@ -32,13 +32,11 @@ fn random_halls(count: usize) -> impl Iterator<Item = Vec<u8>> {
     };
     (0..count).map(move |_| {
         let kind = next();
-        let n = 2 + kind / 16 % 5;
+        let n = 1 + kind / 16 % 6;
         let rows: Vec<Row> = (0..n - 1 + kind / 128 % (12 - n))
             .map(|_| {
                 let code = next() / 8;
-                let from = code % n;
-                let to = (from + 1 + code / n % (n - 1)) % n;
-                (from as u16 + 1, to as u16 + 1, 0)
+                ((code % n) as u16 + 1, (code / n % n) as u16 + 1, 0)
             })
             .collect();
         hall_file(n as u16, &rows)
@@ -47,7 +45,7 @@ fn random_halls(count: usize) -> impl Iterator<Item = Vec<u8>> {
 
 pub fn lines() -> String {
     let mut text = String::new();
-    for (n, rows, prices) in [(2, 5, 3), (3, 4, 3), (3, 5, 2), (4, 4, 3)] {
+    for (n, rows, prices) in [(1, 5, 3), (2, 5, 3), (3, 4, 3), (3, 5, 2), (4, 4, 3)] {
         text += &format!("EVERY JUNCTIONS {n} ROWS 0 TO {rows} PRICES 0 TO {}", prices - 1);
         text += &tally((0..=rows).flat_map(|count| all_halls(n, count, prices)));
     }

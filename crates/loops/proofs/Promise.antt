@@ -1,0 +1,48 @@
+-- No plan opens a loop: without it the choice would join as before, cost no more and have fewer rows. And no loop makes a difference. Assumes nothing.
+use mathlib.Core.Path.{_≡_, sym, ap, _∙_}
+use mathlib.Core.Bool.{true}
+use mathlib.Core.List.{List}
+use Prim.Native.Nat.{ℕ, _≤_}
+use native.Mathlib.Omega.{arith}
+use lib.Dec.{ltb}
+use lib.ListN.{length}
+use borrow.Author.Tests.{ltb-true, ltb-false}
+use Rattle.laws.proofs.Booleans.{by-bool, clash}
+use Rattle.hall.specs.Hall.{Hall, row, count, is-choice, member, is-none, joins}
+use Rattle.hall.specs.File.{hall-in}
+use Rattle.hall.specs.Plan.{total, goes-before}
+use Rattle.dicuts.proofs.Choices.{ascends-skips}
+use Rattle.order.specs.Precedes.{by-total, by-length}
+use Rattle.order.proofs.Before.{before-of, before-irreflexive, before-trans}
+use Rattle.loops.specs.Loops.{left-out, Loops-closed, Loops-idle}
+use Rattle.loops.proofs.Idle.{loop-enters, loop-leaves, missed-without, tight-without}
+use Rattle.loops.proofs.LeftOut.{left-out-ascends, left-out-shorter, left-out-total}
+
+module _ (h : Hall) (c : List ℕ) (i : ℕ) (choice : is-choice h c ≡ true) (in-it : member i c ≡ true) where
+  is-row : 1 ≤ i
+  unfolding is-choice
+  is-row = by-bool (ltb i 1) (λ e. clash in-it (ascends-skips 1 (count h) c i choice (ltb-true i 1 e))) (λ e. ltb-false i 1 e)
+
+  -- a choice without one of its rows goes before it
+  left-out-before : goes-before h (left-out i c) c ≡ true
+  left-out-before =
+      let shorter = left-out-shorter i c in-it in
+      by-bool (ltb (total h (left-out i c)) (total h c))
+      (λ e. before-of h (left-out i c) c (by-total (ltb-true (total h (left-out i c)) (total h c) e)))
+      (λ e. before-of h (left-out i c) c (by-length (omega (arith, ltb-false (total h (left-out i c)) (total h c) e, left-out-total i h c)) shorter))
+
+pub loops-closed : Loops-closed
+unfolding Loops-closed is-choice joins
+loops-closed bs c i acc first in-it loop =
+    let h = hall-in bs in
+    let rest = left-out i c in
+    let joins-rest = ap is-none (sym (missed-without h i (is-row h c i (first .choice) in-it) loop c)) ∙ first .joining in
+    let other : c ≡ rest → ⊥ = λ e. let same = ap (λ (d : List ℕ). length d) e in omega (arith, same, left-out-shorter i c in-it) in
+    before-irreflexive h c
+    (before-trans h c rest c (first .before rest (left-out-ascends i 1 (count h) c (first .choice)) joins-rest other) (left-out-before h c i (first .choice) in-it))
+
+pub loops-idle : Loops-idle
+unfolding Loops-idle
+loops-idle bs c i s j acc low high loop =
+    let h = hall-in bs in
+    (loop-enters (row h i) loop s, loop-leaves (row h i) loop s, missed-without h i low loop c, tight-without h i low loop c j)
