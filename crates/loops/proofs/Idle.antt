@@ -28,7 +28,7 @@ module _ (r : Row) (loop : r .from ≡ r .to) where
   loop-back false s = refl
 
 -- every other number stays
-pub member-left-out : (i v : ℕ) (c : List ℕ) → (v ≡ i → ⊥) → member v c ≡ member v (left-out i c)
+member-left-out : (i v : ℕ) (c : List ℕ) → (v ≡ i → ⊥) → member v c ≡ member v (left-out i c)
 unfolding member left-out
 member-left-out i v [] ne = refl
 member-left-out i v (x ∷ xs) ne =

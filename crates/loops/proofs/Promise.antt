@@ -14,7 +14,7 @@ use Rattle.hall.specs.Plan.{total, goes-before}
 use Rattle.dicuts.proofs.Choices.{ascends-skips}
 use Rattle.order.specs.Precedes.{by-total, by-length}
 use Rattle.order.proofs.Before.{before-of, before-irreflexive, before-trans}
-use Rattle.loops.specs.Loops.{left-out, Loops-closed, Loops-idle}
+use Rattle.loops.specs.Loops.{left-out, Loops-closed, Loops-idle, Left-out-choice}
 use Rattle.loops.proofs.Idle.{loop-enters, loop-leaves, missed-without, tight-without}
 use Rattle.loops.proofs.LeftOut.{left-out-ascends, left-out-shorter, left-out-total}
 
@@ -31,15 +31,19 @@ module _ (h : Hall) (c : List ℕ) (i : ℕ) (choice : is-choice h c ≡ true) (
       (λ e. before-of h (left-out i c) c (by-total (ltb-true (total h (left-out i c)) (total h c) e)))
       (λ e. before-of h (left-out i c) c (by-length (omega (arith, ltb-false (total h (left-out i c)) (total h c) e, left-out-total i h c)) shorter))
 
+pub left-out-choice : Left-out-choice
+unfolding Left-out-choice is-choice
+left-out-choice bs c i choice = left-out-ascends i 1 (count (hall-in bs)) c choice
+
 pub loops-closed : Loops-closed
-unfolding Loops-closed is-choice joins
+unfolding Loops-closed Left-out-choice joins
 loops-closed bs c i acc first in-it loop =
     let h = hall-in bs in
     let rest = left-out i c in
     let joins-rest = ap is-none (sym (missed-without h i (is-row h c i (first .choice) in-it) loop c)) ∙ first .joining in
     let other : c ≡ rest → ⊥ = λ e. let same = ap (λ (d : List ℕ). length d) e in omega (arith, same, left-out-shorter i c in-it) in
     before-irreflexive h c
-    (before-trans h c rest c (first .before rest (left-out-ascends i 1 (count h) c (first .choice)) joins-rest other) (left-out-before h c i (first .choice) in-it))
+    (before-trans h c rest c (first .before rest (left-out-choice bs c i (first .choice)) joins-rest other) (left-out-before h c i (first .choice) in-it))
 
 pub loops-idle : Loops-idle
 unfolding Loops-idle

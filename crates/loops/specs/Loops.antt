@@ -4,7 +4,7 @@ use mathlib.Core.Bool.{true, false, cond}
 use mathlib.Core.List.{List, [], _∷_}
 use Prim.Native.Nat.{ℕ, _≤_}
 use lib.Dec.{eqb}
-use Rattle.hall.specs.Hall.{row, count, enters, leaves, member, missed, tight-around}
+use Rattle.hall.specs.Hall.{row, count, enters, leaves, is-choice, member, missed, tight-around}
 use Rattle.hall.specs.File.{hall-in}
 use Rattle.hall.specs.Plan.{First}
 use Rattle.joining.specs.Promise.{accepted}
@@ -26,3 +26,7 @@ Loops-idle =
     (bs c : List ℕ) (i s j : ℕ) → accepted bs ≡ true → 1 ≤ i → i ≤ count (hall-in bs) → row (hall-in bs) i .from ≡ row (hall-in bs) i .to →
     (enters s (row (hall-in bs) i) ≡ false) × (leaves s (row (hall-in bs) i) ≡ false)
     × (missed (hall-in bs) c ≡ missed (hall-in bs) (left-out i c)) × (tight-around (hall-in bs) c j ≡ tight-around (hall-in bs) (left-out i c) j)
+
+-- and without it the choice is still a choice, so that both calls answer for it
+unfoldable pub Left-out-choice : Type 0
+Left-out-choice = (bs c : List ℕ) (i : ℕ) → is-choice (hall-in bs) c ≡ true → is-choice (hall-in bs) (left-out i c) ≡ true

@@ -1,6 +1,7 @@
 -- What a kind's number says of its row, that no kind's number is 7, and what a kind's test says of the refusal that it is. Assumes nothing.
 use mathlib.Core.Path.{_≡_, refl, sym, ap, _∙_}
 use mathlib.Core.Bool.{Bool, true, false, not}
+use mathlib.Core.Logic.{_⊎_, inl, inr, ⊎-elim}
 use lib.Dec.{eqb}
 use borrow.Author.Tests.{eqb-false, not-true, not-false}
 use Rattle.laws.proofs.Booleans.{clash}
@@ -9,29 +10,34 @@ use Rattle.refusals.specs.declared.Kind.{Kind}
 use Rattle.refusals.specs.declared.Kind.the-variants.{None, ListShort, FileLength, JunctionCount, Blocks, RowCount, RowEnds, RowPrice, Unjoined, Choice, RouteEnd, Site, HallCount, KitStock, FixedCut, LoadWidth, SitePlace, Bridge, FixedRow, LoneRow}
 use Rattle.refusals.specs.Kinds.{refusal-of, Seven-unused}
 
+-- every kind but one has a number over 0
+pub some-number : (k : Kind) → (k ≡ None) ⊎ (eqb (refusal-of k .number) 0 ≡ false)
+unfolding refusal-of refusal
+some-number None = inl refl
+some-number ListShort = inr refl
+some-number FileLength = inr refl
+some-number JunctionCount = inr refl
+some-number Blocks = inr refl
+some-number RowCount = inr refl
+some-number (RowEnds i) = inr refl
+some-number (RowPrice i) = inr refl
+some-number Unjoined = inr refl
+some-number Choice = inr refl
+some-number RouteEnd = inr refl
+some-number Site = inr refl
+some-number HallCount = inr refl
+some-number KitStock = inr refl
+some-number FixedCut = inr refl
+some-number LoadWidth = inr refl
+some-number SitePlace = inr refl
+some-number Bridge = inr refl
+some-number FixedRow = inr refl
+some-number LoneRow = inr refl
+
 -- a kind without a number carries no row
 pub kind-none : (k : Kind) → eqb (refusal-of k .number) 0 ≡ true → refusal-of k ≡ refusal 0 0
-unfolding refusal-of refusal
-kind-none None t = refl
-kind-none ListShort t = clash t refl
-kind-none FileLength t = clash t refl
-kind-none JunctionCount t = clash t refl
-kind-none Blocks t = clash t refl
-kind-none RowCount t = clash t refl
-kind-none (RowEnds i) t = clash t refl
-kind-none (RowPrice i) t = clash t refl
-kind-none Unjoined t = clash t refl
-kind-none Choice t = clash t refl
-kind-none RouteEnd t = clash t refl
-kind-none Site t = clash t refl
-kind-none HallCount t = clash t refl
-kind-none KitStock t = clash t refl
-kind-none FixedCut t = clash t refl
-kind-none LoadWidth t = clash t refl
-kind-none SitePlace t = clash t refl
-kind-none Bridge t = clash t refl
-kind-none FixedRow t = clash t refl
-kind-none LoneRow t = clash t refl
+unfolding refusal-of
+kind-none k t = ⊎-elim (λ (e : k ≡ None). rw e) (λ (e : eqb (refusal-of k .number) 0 ≡ false). clash t e) (some-number k)
 
 not-seven : (k : Kind) → eqb (refusal-of k .number) 7 ≡ false
 unfolding refusal-of refusal

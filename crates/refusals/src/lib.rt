@@ -31,7 +31,10 @@ impl Kind {
     pub fn is_none(self) -> bool
         ensures { λ r. ⌜ r ≡ eqb (refusal-of self .number) 0 ⌝ }
     {
-        number_of(self) == 0
+        match self {
+            Kind::None => true,
+            _ => false,
+        }
     }
 }
 
