@@ -2,12 +2,11 @@
 use mathlib.Core.Path.{_≡_, refl}
 use mathlib.Core.Bool.{true}
 use mathlib.Core.List.{List, [], _∷_}
-use mathlib.Core.Logic.{⊎-elim}
 use Prim.Native.Nat.{ℕ, suc, _≤_, _<_}
 use native.Mathlib.Omega.{arith}
 use lib.Dec.{eqb}
 use lib.ListN.{length}
-use Rattle.laws.proofs.Booleans.{by-bool, clash, or-cases}
+use Rattle.laws.proofs.Booleans.{by-bool, clash}
 use Rattle.hall.specs.Hall.{Hall, ascends-from, member}
 use Rattle.hall.specs.Plan.{total}
 use Rattle.dicuts.proofs.Choices.{ascends-low, ascends-high, ascends-rest}
@@ -35,7 +34,7 @@ module _ (i : ℕ) where
   left-out-shorter [] m = clash m refl
   left-out-shorter (x ∷ xs) m =
       by-bool (eqb x i) (λ e. rw e (omega (arith, left-out-length xs)))
-      (λ e. rw e (omega (arith, left-out-shorter xs (⊎-elim (λ (t : eqb x i ≡ true). clash t e) (λ (t : member i xs ≡ true). t) (or-cases (eqb x i) (member i xs) m)))))
+      (λ e. rw e (omega (arith, left-out-shorter xs (rw e at m))))
 
   pub left-out-total : (h : Hall) (c : List ℕ) → total h (left-out i c) ≤ total h c
   unfolding left-out total
