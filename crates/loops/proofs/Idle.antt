@@ -10,6 +10,7 @@ use borrow.Author.Tests.{eqb-true, eqb-false, ne-eqb}
 use Rattle.laws.proofs.Booleans.{by-bool}
 use Rattle.junctions.specs.Sets.{holds, with-junction}
 use Rattle.hall.specs.Hall.{Row, Hall, row-of, row, enters, leaves, entering, member, over-rows, spread, reached, first-short, missed, tight, tight-from, tight-around}
+use Rattle.dicuts.proofs.Shores.{leaves-not}
 use Rattle.loops.specs.Loops.{left-out}
 
 module _ (r : Row) (loop : r .from ≡ r .to) where
@@ -18,8 +19,7 @@ module _ (r : Row) (loop : r .from ≡ r .to) where
   loop-enters s = by-bool (holds s (r .to)) (λ e. rw (loop, e)) (λ e. rw (loop, e))
 
   pub loop-leaves : (s : ℕ) → leaves s r ≡ false
-  unfolding leaves
-  loop-leaves s = by-bool (holds s (r .to)) (λ e. rw (loop, e)) (λ e. rw (loop, e))
+  loop-leaves s = leaves-not s r (λ t. rw loop at t)
 
   -- run backward, it leads nowhere new
   loop-back : (chosen : Bool) (s : ℕ) → cond (chosen && holds s (r .to)) (with-junction (r .from) s) s ≡ s
@@ -52,9 +52,12 @@ module _ (h : Hall) (i : ℕ) (low : 1 ≤ i) (loop : row h i .from ≡ row h i 
   unfolding tight-around
   tight-without j = tight-from-without _ 0 j _
 
-  -- one pass over the rows from row k on
-  over-without : (k : ℕ) (rs : List Row) (s : ℕ) → ((m : ℕ) → m < length rs → k + m ≡ i → getD rs m (row-of 0 0 0) .from ≡ getD rs m (row-of 0 0 0) .to) →
-      over-rows k rs c s ≡ over-rows k rs (left-out i c) s
+  -- of the rows from row k on, row i is a loop
+  abbrev Loop-in : (k : ℕ) → List Row → Type 0
+  Loop-in k rs = (m : ℕ) → m < length rs → k + m ≡ i → getD rs m (row-of 0 0 0) .from ≡ getD rs m (row-of 0 0 0) .to
+
+  -- one pass over them
+  over-without : (k : ℕ) (rs : List Row) (s : ℕ) → Loop-in k rs → over-rows k rs c s ≡ over-rows k rs (left-out i c) s
   unfolding over-rows
   over-without k [] s f = refl
   over-without k (r ∷ rs) s f =
@@ -64,7 +67,7 @@ module _ (h : Hall) (i : ℕ) (low : 1 ≤ i) (loop : row h i .from ≡ row h i 
       rw (here (member k c), here (member k (left-out i c))) (over-without (suc k) rs _ later))
       (λ e. rw (member-left-out i k c (eqb-false k i e)) (over-without (suc k) rs _ later))
     where
-      later : (m : ℕ) → m < length rs → suc k + m ≡ i → getD rs m (row-of 0 0 0) .from ≡ getD rs m (row-of 0 0 0) .to
+      later : Loop-in (suc k) rs
       later m l q = f (suc m) (omega arith) (omega arith)
 
   spread-without : (fuel s : ℕ) → spread fuel h c s ≡ spread fuel h (left-out i c) s

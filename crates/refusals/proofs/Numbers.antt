@@ -10,61 +10,38 @@ use Rattle.refusals.specs.declared.Kind.{Kind}
 use Rattle.refusals.specs.declared.Kind.the-variants.{None, ListShort, FileLength, JunctionCount, Blocks, RowCount, RowEnds, RowPrice, Unjoined, Choice, RouteEnd, Site, HallCount, KitStock, FixedCut, LoadWidth, SitePlace, Bridge, FixedRow, LoneRow}
 use Rattle.refusals.specs.Kinds.{refusal-of, Seven-unused}
 
--- every kind but one has a number over 0
-pub some-number : (k : Kind) → (k ≡ None) ⊎ (eqb (refusal-of k .number) 0 ≡ false)
+-- every kind but one has a number over 0, and none has 7
+pub kind-number : (k : Kind) → ((k ≡ None) ⊎ (eqb (refusal-of k .number) 0 ≡ false)) × (eqb (refusal-of k .number) 7 ≡ false)
 unfolding refusal-of refusal
-some-number None = inl refl
-some-number ListShort = inr refl
-some-number FileLength = inr refl
-some-number JunctionCount = inr refl
-some-number Blocks = inr refl
-some-number RowCount = inr refl
-some-number (RowEnds i) = inr refl
-some-number (RowPrice i) = inr refl
-some-number Unjoined = inr refl
-some-number Choice = inr refl
-some-number RouteEnd = inr refl
-some-number Site = inr refl
-some-number HallCount = inr refl
-some-number KitStock = inr refl
-some-number FixedCut = inr refl
-some-number LoadWidth = inr refl
-some-number SitePlace = inr refl
-some-number Bridge = inr refl
-some-number FixedRow = inr refl
-some-number LoneRow = inr refl
+kind-number None = (inl refl, refl)
+kind-number ListShort = (inr refl, refl)
+kind-number FileLength = (inr refl, refl)
+kind-number JunctionCount = (inr refl, refl)
+kind-number Blocks = (inr refl, refl)
+kind-number RowCount = (inr refl, refl)
+kind-number (RowEnds i) = (inr refl, refl)
+kind-number (RowPrice i) = (inr refl, refl)
+kind-number Unjoined = (inr refl, refl)
+kind-number Choice = (inr refl, refl)
+kind-number RouteEnd = (inr refl, refl)
+kind-number Site = (inr refl, refl)
+kind-number HallCount = (inr refl, refl)
+kind-number KitStock = (inr refl, refl)
+kind-number FixedCut = (inr refl, refl)
+kind-number LoadWidth = (inr refl, refl)
+kind-number SitePlace = (inr refl, refl)
+kind-number Bridge = (inr refl, refl)
+kind-number FixedRow = (inr refl, refl)
+kind-number LoneRow = (inr refl, refl)
 
 -- a kind without a number carries no row
 pub kind-none : (k : Kind) → eqb (refusal-of k .number) 0 ≡ true → refusal-of k ≡ refusal 0 0
 unfolding refusal-of
-kind-none k t = ⊎-elim (λ (e : k ≡ None). rw e) (λ (e : eqb (refusal-of k .number) 0 ≡ false). clash t e) (some-number k)
-
-not-seven : (k : Kind) → eqb (refusal-of k .number) 7 ≡ false
-unfolding refusal-of refusal
-not-seven None = refl
-not-seven ListShort = refl
-not-seven FileLength = refl
-not-seven JunctionCount = refl
-not-seven Blocks = refl
-not-seven RowCount = refl
-not-seven (RowEnds i) = refl
-not-seven (RowPrice i) = refl
-not-seven Unjoined = refl
-not-seven Choice = refl
-not-seven RouteEnd = refl
-not-seven Site = refl
-not-seven HallCount = refl
-not-seven KitStock = refl
-not-seven FixedCut = refl
-not-seven LoadWidth = refl
-not-seven SitePlace = refl
-not-seven Bridge = refl
-not-seven FixedRow = refl
-not-seven LoneRow = refl
+kind-none k t = ⊎-elim (λ (e : k ≡ None). rw e) (λ (e : eqb (refusal-of k .number) 0 ≡ false). clash t e) (kind-number k .0)
 
 pub seven-unused : Seven-unused
 unfolding Seven-unused
-seven-unused k = eqb-false (refusal-of k .number) 7 (not-seven k)
+seven-unused k = eqb-false (refusal-of k .number) 7 (kind-number k .1)
 
 -- what a kind's test says of the refusal that it is
 pub is-refused : (k : Kind) (w : Refusal) (b : Bool) → refusal-of k ≡ w → b ≡ eqb (refusal-of k .number) 0 → not b ≡ true → eqb (w .number) 0 ≡ false

@@ -12,7 +12,7 @@ use Rattle.refusals.specs.declared.Kind.{Kind}
 use Rattle.refusals.specs.declared.Kind.the-variants.{None}
 use Rattle.refusals.specs.Kinds.{refusal-of}
 use Rattle.refusals.proofs.Kind.{the-type}
-use Rattle.refusals.proofs.Numbers.{some-number}
+use Rattle.refusals.proofs.Numbers.{kind-number}
 use Rattle.refusals.proofs.Kind.is_none.Statement.{statement}
 use Rattle.refusals.proofs.Kind.is_none.Tie as tie
 use types.Run.{OneOf, miss}
@@ -23,7 +23,7 @@ abbrev others : List ℕ
 others = 1 ∷ 2 ∷ 3 ∷ 4 ∷ 5 ∷ 6 ∷ 7 ∷ 8 ∷ 9 ∷ 10 ∷ 11 ∷ 12 ∷ 13 ∷ 14 ∷ 15 ∷ 16 ∷ 17 ∷ 18 ∷ 19 ∷ []
 
 numbered : (k : Kind) → OneOf others (tagOf the-type k) → _≡_ {A = Bool} false (eqb (refusal-of k .number) 0)
-numbered k h = ⊎-elim (λ (e : k ≡ None). absurd (miss others 0 tt (rw e at h))) (λ (e : eqb (refusal-of k .number) 0 ≡ false). sym e) (some-number k)
+numbered k h = ⊎-elim (λ (e : k ≡ None). absurd (miss others 0 tt (rw e at h))) (λ (e : eqb (refusal-of k .number) 0 ≡ false). sym e) (kind-number k .0)
 
 enum-told : tie.Need-enum-told
 enum-told c = search needs
