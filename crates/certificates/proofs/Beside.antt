@@ -1,7 +1,7 @@
--- A certificate of a potential that meets P1 and P2 for the prices: its loads are within them, its weights add up to what the chosen rows cost,
--- and its cuts stand beside the choice. Assumes nothing.
+-- A certificate of a potential that meets P1 and P2 for the charges: its loads are within the prices but for fixed rows, its weights add up to what the chosen rows are charged,
+-- and its cuts stand beside a choice of that total. Assumes nothing.
 use mathlib.Core.Path.{_≡_, refl, sym, ap, _∙_}
-use mathlib.Core.Bool.{Bool, true, false, cond}
+use mathlib.Core.Bool.{Bool, true, false, _||_, cond}
 use mathlib.Core.List.{List, [], _∷_}
 use Prim.Native.Nat.{ℕ, zero, suc, _+_, _-_, _*_, _≤_, _<_}
 use native.Mathlib.Omega.{arith}
@@ -12,13 +12,15 @@ use Rattle.laws.specs.Finite.{sum-below, one-if}
 use Rattle.laws.proofs.Booleans.{by-bool, and-i, or-l, or-r}
 use Rattle.laws.proofs.DoubleSums.{cond-add}
 use Rattle.laws.proofs.Finite.{sum-ext, sum-add, sum-zero}
-use Rattle.hall.specs.Hall.{Hall, Row, row, row-of, count, enters, is-choice, member}
+use Rattle.hall.specs.Hall.{Hall, Row, row, row-of, count, enters}
 use Rattle.hall.specs.Plan.{Cut, Beside, load, loads-fit, weight-sum, total}
 use Rattle.dicuts.specs.Shores.{Ranged, Linked, Tight, once, cover}
-use Rattle.dicuts.proofs.Choices.{over-members, total-over}
 use Rattle.laminar.specs.Families.{shore-family}
 use Rattle.laminar.proofs.Few.{few-cuts}
 use Rattle.potentials.specs.Potential.{Under, Paid, cost}
+use Rattle.order.specs.Ranked.{charge}
+use Rattle.order.proofs.Ranked.{charge-price}
+use Rattle.duality.specs.Weighted.{Carried}
 use Rattle.certificates.specs.Certificate.{Certificate}
 
 entered-one : (m s : ℕ) (a b : Bool) → m * s + cond a (cond b m 0) 0 ≡ m * (s + cond b (one-if a) 0)
@@ -66,34 +68,32 @@ module _ (h : Hall) (F : ℕ → Bool) where
         (λ e. rw e (omega (arith, proof .rises (suc k) (omega arith) (omega arith), under (suc k) (omega arith) (omega arith), paid (suc k) (omega arith) (omega arith) e)))
         (λ e. rw e))
 
-fits-all : (ks : List Cut) (none : Row) (rs : List Row) → ((k : ℕ) → k < length rs → load ks (getD rs k none) ≤ getD rs k none .price) → loads-fit ks rs ≡ true
+fits-all : (ks : List Cut) (none : Row) (rs : List Row) → ((k : ℕ) → k < length rs → getD rs k none .fixed ≡ false → load ks (getD rs k none) ≤ getD rs k none .price)
+    → loads-fit ks rs ≡ true
 unfolding loads-fit
 fits-all ks none [] f = refl
 fits-all ks none (r ∷ rs) f =
-    and-i (leb (load ks r) (r .price)) (loads-fit ks rs) (le-leb (load ks r) (r .price) (f 0 (omega arith))) (fits-all ks none rs (λ k l. f (suc k) (omega arith)))
+    and-i (r .fixed || leb (load ks r) (r .price)) (loads-fit ks rs)
+    (by-bool (r .fixed) (λ e. or-l (r .fixed) (leb (load ks r) (r .price)) e)
+    (λ e. or-r (r .fixed) (leb (load ks r) (r .price)) (le-leb (load ks r) (r .price) (f 0 (omega arith) e))))
+    (fits-all ks none rs (λ k l. f (suc k) (omega arith)))
 
--- loads within the prices
-pub carried-loads : (h : Hall) (ks : List Cut) → ((i : ℕ) → 1 ≤ i → i ≤ count h → load ks (row h i) ≤ row h i .price) → loads-fit ks (h .rows) ≡ true
-unfolding row count
+-- loads within the prices, but for fixed rows
+pub carried-loads : (h : Hall) (ks : List Cut) → Carried h (λ i. row h i .price) ks → loads-fit ks (h .rows) ≡ true
+unfolding Carried row count
 carried-loads h ks f =
     fits-all ks (row-of 0 0 0) (h .rows) (λ k l. let e : suc k - 1 ≡ k = omega arith in rw e at (f (suc k) (omega arith) (omega arith)))
 
-module _ (h : Hall) (ranged : Ranged h) (linked : Linked h) (c : List ℕ) (choice : is-choice h c ≡ true) (p : ℕ → ℕ) where
-  chosen : ℕ → Bool
-  chosen i = member i c
+-- the cuts of a potential for the charges
+module _ (h : Hall) (F : ℕ → Bool) (p : ℕ → ℕ) (ks : List Cut) (proof : Certificate h (once F) p ks) (under : Under h (charge h) p) where
+  pub charged-loads : loads-fit ks (h .rows) ≡ true
+  unfolding Carried
+  charged-loads = carried-loads h ks (λ i l m e. omega (arith, loads-under h F (charge h) p ks proof under i l m, charge-price h i e))
 
-  prices : ℕ → ℕ
-  prices i = row h i .price
-
-  total-cost : total h c ≡ cost h prices chosen
-  unfolding chosen prices cost is-choice
-  total-cost = total-over h c ∙ over-members prices 1 (count h) c (omega arith) choice
-
-  pub certificate-beside : (ks : List Cut) → Certificate h (once (λ i. member i c)) p ks → Under h (λ i. row h i .price) p → Paid h (λ i. row h i .price) p (λ i. member i c) → Beside h c ks
-  unfolding chosen prices
-  certificate-beside ks proof under paid = record {
+  pub certificate-beside : Ranged h → Linked h → (c : List ℕ) → cost h (charge h) F ≡ total h c → Paid h (charge h) p F → Beside h c ks
+  certificate-beside ranged linked c same paid = record {
     good = proof .good;
     few = few-cuts h ranged linked ks (proof .good);
-    loads = carried-loads h ks (loads-under h chosen prices p ks proof under);
-    sum = weights-cost h chosen prices p ks proof under paid ∙ sym total-cost;
+    loads = charged-loads;
+    sum = weights-cost h F (charge h) p ks proof under paid ∙ same;
   }

@@ -1,5 +1,5 @@
--- The cuts of a potential that meets P1, P2 and P3 for the prices, with any set of rows, stand beside the first choice: it costs as much as that set. Assumes nothing.
-use mathlib.Core.Path.{_≡_, refl, sym, ap, _∙_}
+-- The cuts of a potential that meets P1, P2 and P3 for the charges, with any set of rows, stand beside the first choice: its total is what that set is charged. Assumes nothing.
+use mathlib.Core.Path.{_≡_, ap, _∙_}
 use mathlib.Core.Bool.{Bool, true}
 use mathlib.Core.List.{List}
 use Prim.Native.Nat.{ℕ, _≤_}
@@ -7,24 +7,26 @@ use native.Mathlib.Omega.{arith}
 use lib.Dec.{leb}
 use borrow.Author.Tests.{leb-true, leb-false}
 use Rattle.laws.proofs.Booleans.{by-bool}
-use Rattle.hall.specs.Hall.{Hall, row, count, is-choice, member, joins}
+use Rattle.hall.specs.Hall.{Hall, is-choice, member, joins}
 use Rattle.hall.specs.Plan.{First, Cut, Beside, total}
 use Rattle.dicuts.specs.Shores.{Ranged, Linked, once}
+use Rattle.joining.proofs.Joining.{joining-mono}
 use Rattle.joining.proofs.Joins.{joining-joins}
+use Rattle.potentials.specs.Potential.{cost}
 use Rattle.potentials.specs.Repair.{Repaired}
-use Rattle.dicuts.proofs.Same.{cover-same}
-use Rattle.potentials.proofs.Same.{repaired-same}
 use Rattle.order.specs.Precedes.{Precedes, by-total, by-length, by-dictionary}
+use Rattle.order.specs.Ranked.{charge, Plannable}
 use Rattle.order.proofs.Before.{before-why}
 use Rattle.choicelists.specs.Listed.{listed}
 use Rattle.choicelists.proofs.Listed.{listed-choice, listed-member}
-use Rattle.duality.proofs.Beside.{beside-least}
+use Rattle.duality.proofs.Beside.{weights-below-total}
 use Rattle.duality.proofs.Meeting.{joins-meeting}
 use Rattle.certificates.specs.Cuts.{peak, cuts}
 use Rattle.certificates.specs.Certificate.{Certificate}
 use Rattle.certificates.proofs.Certificate.{certificate}
+use Rattle.certificates.proofs.Charges.{None-fixed, cheap-unfixed, choice-cheap, listed-charges}
 use Rattle.certificates.proofs.Classes.{peak-high}
-use Rattle.certificates.proofs.Beside.{certificate-beside}
+use Rattle.certificates.proofs.Beside.{weights-cost, charged-loads, certificate-beside}
 
 module _ (h : Hall) where
   precedes-most : (c d : List ℕ) → Precedes h c d → total h c ≤ total h d
@@ -40,40 +42,32 @@ module _ (h : Hall) where
       let less = leb-false (total h c) (total h d) e in
       precedes-most c d (before-why h c d (first .before d choice joining (λ q. omega (arith, ap (total h) q)))))
 
-  -- the rows of the hall alone decide
-  pub certificate-same : (F G : ℕ → Bool) → ((i : ℕ) → 1 ≤ i → i ≤ count h → F i ≡ G i) → (p : ℕ → ℕ) (ks : List Cut) → Certificate h (once F) p ks → Certificate h (once G) p ks
-  certificate-same F G same p ks proof = record {
-    good = proof .good;
-    tight = λ s e. let t = proof .tight s e in record { shore = t .shore; one = sym (cover-same h F G same s) ∙ t .one };
-    rises = proof .rises;
-    levels = proof .levels;
-  }
-
-  module _ (ranged : Ranged h) (linked : Linked h) (c : List ℕ) (first : First h c) (p : ℕ → ℕ) (F : ℕ → Bool) (done : Repaired h (λ i. row h i .price) p F) where
-    rows-listed : (i : ℕ) → 1 ≤ i → i ≤ count h → F i ≡ member i (listed h F)
-    rows-listed i l m = sym (listed-member h F i l m)
-
-    listed-done : Repaired h (λ i. row h i .price) p (λ i. member i (listed h F))
-    listed-done =
-        repaired-same h ranged (λ i. row h i .price) (λ i. row h i .price) (λ i l m. refl) p p (λ j l m. refl) F (λ i. member i (listed h F)) rows-listed done
-
+  module _ (able : Plannable h) (ranged : Ranged h) (linked : Linked h) (c : List ℕ) (first : First h c) (p : ℕ → ℕ) (F : ℕ → Bool) (done : Repaired h (charge h) p F) where
     module _ (top : ℕ) (high : (j : ℕ) → 1 ≤ j → j ≤ h .n → p j ≤ top) where
-      beside-listed : Beside h (listed h F) (cuts h (once F) p top)
-      beside-listed =
-          certificate-beside h ranged linked (listed h F) (listed-choice h F) p (cuts h (once F) p top)
-          (certificate-same F (λ i. member i (listed h F)) rows-listed p (cuts h (once F) p top) (certificate h ranged (once F) p (done .joining) (done .parted) top high))
-          (listed-done .under) (listed-done .paid)
+      proof : Certificate h (once F) p (cuts h (once F) p top)
+      proof = certificate h ranged (once F) p (done .joining) (done .parted) top high
 
-      same-total : total h (listed h F) ≡ total h c
-      same-total =
+      -- the weights are what the set is charged, and no more than any joining choice costs
+      charged-least : cost h (charge h) F ≤ total h c
+      charged-least =
           omega (
             arith,
-            first-least c (listed h F) first (listed-choice h F) (joining-joins h ranged (listed h F) (listed-done .joining)),
-            beside-least h (listed h F) (cuts h (once F) p top) beside-listed c (first .choice) (joins-meeting h ranged c (first .choice) (first .joining)),
+            weights-cost h F (charge h) p (cuts h (once F) p top) proof (done .under) (done .paid),
+            weights-below-total h (cuts h (once F) p top) (proof .good) (charged-loads h F p (cuts h (once F) p top) proof (done .under)) c (first .choice)
+                (joins-meeting h ranged c (first .choice) (first .joining)),
           )
 
+      unfixed : None-fixed h F
+      unfixed = cheap-unfixed h F (omega (arith, charged-least, choice-cheap h able c (first .choice)))
+
+      listed-joins : joins h (listed h F) ≡ true
+      listed-joins = joining-joins h ranged (listed h F) (joining-mono h F (λ i. member i (listed h F)) (λ i l m e. listed-member h F i l m ∙ e) (done .joining))
+
+      same-total : cost h (charge h) F ≡ total h c
+      same-total = omega (arith, charged-least, listed-charges h F unfixed, first-least c (listed h F) first (listed-choice h F unfixed) listed-joins)
+
       pub beside-first : Beside h c (cuts h (once F) p top)
-      beside-first = record { good = beside-listed .good; few = beside-listed .few; loads = beside-listed .loads; sum = beside-listed .sum ∙ same-total }
+      beside-first = certificate-beside h F p (cuts h (once F) p top) proof (done .under) ranged linked c same-total (done .paid)
 
     pub beside-first-there : (ks : List Cut) × Beside h c ks
     beside-first-there = (cuts h (once F) p (peak (h .n) p), beside-first (peak (h .n) p) (peak-high (h .n) p))

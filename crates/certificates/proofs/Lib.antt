@@ -7,6 +7,7 @@ pub mod Uncrossed
 pub mod Levels
 pub mod Listing
 pub mod Certificate
+pub mod Charges
 pub mod Beside
 pub mod Weighing
 pub mod First

@@ -10,10 +10,10 @@ use borrow.Author.Tests.{ne-eqb}
 use Rattle.laws.proofs.Booleans.{clash, or-r}
 use Rattle.hall.specs.Hall.{Hall, count, ascends-from, is-choice, member}
 use Rattle.hall.specs.Plan.{earlier}
-use Rattle.dicuts.proofs.Choices.{ascends-low, ascends-high, ascends-rest}
+use Rattle.dicuts.proofs.Choices.{ascends-low, ascends-high, ascends-rest, ascends-members, choice-ascends}
 use Rattle.order.proofs.Dictionary.{earlier-cases}
 use Rattle.choicelists.specs.Listed.{Differs-first}
-use Rattle.choicelists.proofs.Listed.{ascends-members, member-head, member-under}
+use Rattle.choicelists.proofs.Listed.{member-head, member-under}
 
 -- the numbers 1 to m alone decide
 pub leads-ext : (m : ℕ) {F G A B : ℕ → Bool} → ((i : ℕ) → 1 ≤ i → i ≤ m → F i ≡ A i) → ((i : ℕ) → 1 ≤ i → i ≤ m → G i ≡ B i) → Differs-first m F G → Differs-first m A B
@@ -67,5 +67,4 @@ module _ (l : ℕ) where
 module _ (h : Hall) where
   pub earlier-leads : (c d : List ℕ) → is-choice h c ≡ true → is-choice h d ≡ true → earlier c d ≡ true →
       Differs-first (count h) (λ i. member i c) (λ i. member i d)
-  unfolding is-choice
-  earlier-leads c d p q e = earlier-leads-from (count h) 1 1 c d (omega arith) p q e
+  earlier-leads c d p q e = earlier-leads-from (count h) 1 1 c d (omega arith) (choice-ascends h c p) (choice-ascends h d q) e

@@ -1,4 +1,4 @@
--- Sets of rows and choices are the same thing: each set is listed as a choice with its rows as members, and a choice is the list of its members. Assumes nothing.
+-- A set of rows is listed in ascending order, with its rows as members; it is a choice where none of them is fixed. Assumes nothing.
 use mathlib.Core.Path.{_≡_, refl, sym, ap, _∙_}
 use mathlib.Core.Bool.{Bool, true, false}
 use mathlib.Core.List.{List, [], _∷_}
@@ -8,23 +8,12 @@ use native.Mathlib.Omega.{arith}
 use lib.Dec.{eqb}
 use borrow.Author.Tests.{eq-eqb, eqb-true, eqb-false}
 use Rattle.laws.proofs.Booleans.{by-bool, clash, or-cases}
-use Rattle.hall.specs.Hall.{Hall, count, ascends-from, is-choice, member}
-use Rattle.dicuts.proofs.Choices.{ascends-low, ascends-high, ascends-rest, ascends-skips}
-use Rattle.order.proofs.Least.{ascends-cons, ascends-earlier}
+use Rattle.hall.specs.Hall.{Hall, row, count, ascends-from, is-choice, member}
+use Rattle.dicuts.proofs.Choices.{ascends-high, ascends-rest, ascends-skips, ascends-cons, ascends-earlier, ascends-members, ascends-choice}
 use Rattle.choicelists.specs.Listed.{passing, listed}
 
 -- members of an ascending list
 module _ (l : ℕ) where
-  pub ascends-members : (a : ℕ) (c : List ℕ) (v : ℕ) → ascends-from a l c ≡ true → member v c ≡ true → (a ≤ v) × (v ≤ l)
-  unfolding member
-  ascends-members a [] v e t = clash t refl
-  ascends-members a (i ∷ is) v e t =
-      let low = ascends-low a l i is e in
-      let high = ascends-high a l i is e in
-      ⊎-elim (λ (q : eqb i v ≡ true). omega (arith, eqb-true i v q))
-      (λ (q : member v is ≡ true). let r = ascends-members (suc i) is v (ascends-rest a l i is e) q in (omega arith, r .1))
-      (or-cases (eqb i v) (member v is) t)
-
   pub member-head : (x : ℕ) (xs : List ℕ) → member x (x ∷ xs) ≡ true
   unfolding member
   member-head x xs = rw (eq-eqb x x refl)
@@ -55,10 +44,16 @@ passing-member (suc k) a F i low high =
     by-bool (F a) (λ e. rw (e, q) up) (λ e. rw e up))
 
 module _ (h : Hall) where
-  pub listed-choice : (F : ℕ → Bool) → is-choice h (listed h F) ≡ true
-  unfolding is-choice listed
-  listed-choice F = passing-ascends (count h) 1 (count h) F (omega arith)
+  pub listed-ascends : (F : ℕ → Bool) → ascends-from 1 (count h) (listed h F) ≡ true
+  unfolding listed
+  listed-ascends F = passing-ascends (count h) 1 (count h) F (omega arith)
 
   pub listed-member : (F : ℕ → Bool) (i : ℕ) → 1 ≤ i → i ≤ count h → member i (listed h F) ≡ F i
   unfolding listed
   listed-member F i low high = passing-member (count h) 1 F i low (omega arith)
+
+  pub listed-choice : (F : ℕ → Bool) → ((i : ℕ) → 1 ≤ i → i ≤ count h → F i ≡ true → row h i .fixed ≡ false) → is-choice h (listed h F) ≡ true
+  listed-choice F unfixed =
+      ascends-choice h (listed h F) (listed-ascends F)
+      (λ i t. let within = ascends-members (count h) 1 (listed h F) i (listed-ascends F) t in
+      unfixed i (within .0) (within .1) (sym (listed-member F i (within .0) (within .1)) ∙ t))

@@ -9,9 +9,9 @@ use Rattle.laws.specs.Finite.{sum-below, one-if, count-below}
 use Rattle.laws.proofs.Finite.{sum-ext}
 use Rattle.hall.specs.Hall.{Hall, row, count, is-choice, member}
 use Rattle.hall.specs.Plan.{total}
-use Rattle.dicuts.proofs.Choices.{over, over-members, total-over}
+use Rattle.dicuts.proofs.Choices.{over, over-members, choice-ascends, total-over}
 use Rattle.choicelists.specs.Listed.{listed}
-use Rattle.choicelists.proofs.Listed.{listed-choice, listed-member}
+use Rattle.choicelists.proofs.Listed.{listed-ascends, listed-member}
 
 pub length-over : (c : List ℕ) → length c ≡ over (λ i. 1) c
 unfolding over
@@ -21,12 +21,11 @@ length-over (i ∷ is) = omega (arith, length-over is)
 module _ (h : Hall) where
   -- a sum over a choice, and over a listed set
   pub over-choice : (f : ℕ → ℕ) (c : List ℕ) → is-choice h c ≡ true → over f c ≡ sum-below (count h) (λ k. cond (member (suc k) c) (f (suc k)) 0)
-  unfolding is-choice
-  over-choice f c e = over-members f 1 (count h) c (omega arith) e
+  over-choice f c e = over-members f 1 (count h) c (omega arith) (choice-ascends h c e)
 
   pub over-listed : (f : ℕ → ℕ) (F : ℕ → Bool) → over f (listed h F) ≡ sum-below (count h) (λ k. cond (F (suc k)) (f (suc k)) 0)
   over-listed f F =
-      over-choice f (listed h F) (listed-choice h F)
+      over-members f 1 (count h) (listed h F) (omega arith) (listed-ascends h F)
       ∙ sum-ext (count h) (λ k. cond (member (suc k) (listed h F)) (f (suc k)) 0) (λ k. cond (F (suc k)) (f (suc k)) 0)
       (λ k l. ap (λ (b : Bool). cond b (f (suc k)) 0) (listed-member h F (suc k) (omega arith) (omega arith)))
 

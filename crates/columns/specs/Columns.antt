@@ -29,6 +29,10 @@ pub record Columns (h : Hall) (n m : ℕ) (tails heads : List ℕ) : Type 0 wher
   pub tail : (i : ℕ) → 1 ≤ i → i ≤ m → at tails i ≡ row h i .from
   pub head : (i : ℕ) → 1 ≤ i → i ≤ m → at heads i ≡ row h i .to
 
+-- the flags are the marks of the fixed rows
+abbrev pub Marks : Hall → (fixed : List Bool) → Type 0
+Marks h fixed = (i : ℕ) → 1 ≤ i → i ≤ count h → flagged fixed i ≡ row h i .fixed
+
 -- the sets are the arcs of a set of rows
 unfoldable pub Arcs : Hall → (F : ℕ → Bool) → (sets : List ℕ) → Type 0
 Arcs h F sets = (x : ℕ) → 1 ≤ x → x ≤ h .n → at sets x ≡ arcs h F x

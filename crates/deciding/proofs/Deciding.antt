@@ -21,7 +21,7 @@ use Rattle.potentials.proofs.Priced.{priced-under, raised-priced, flip-priced}
 use Rattle.potentials.proofs.Raise.{closed-raisable, raised-parted, raised-in, raised-out}
 use Rattle.potentials.proofs.Same.{cost-same, cost-rows-same, parted-same, priced-same}
 use Rattle.potentials.proofs.Weights.{put-same}
-use Rattle.order.specs.Ranked.{ranked}
+use Rattle.order.specs.Ranked.{ranked, Plannable}
 use Rattle.choicelists.specs.Listed.{listed}
 use Rattle.choicelists.proofs.Leads.{leads-ext}
 use Rattle.certificates.proofs.Weighing.{parted-weighs}
@@ -182,5 +182,5 @@ deciding-same h rg c d costs p q levels F G rows k high so-far =
     }
 
 -- when all rows are decided, for ranked costs, the first choice is found
-pub deciding-end : (h : Hall) → Ranged h → count h ≤ 256 → (p : ℕ → ℕ) (F : ℕ → Bool) → Deciding h (ranked h) (count h) p F → First h (listed h F)
-deciding-end h rg few p F done = decided-first h rg few F (done .joining) (done .least) (done .decided)
+pub deciding-end : (h : Hall) → Ranged h → Plannable h → (p : ℕ → ℕ) (F : ℕ → Bool) → Deciding h (ranked h) (count h) p F → First h (listed h F)
+deciding-end h rg able p F done = decided-first h rg able F (done .joining) (done .least) (done .decided)

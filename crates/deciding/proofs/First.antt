@@ -8,22 +8,26 @@ use native.Mathlib.Omega.{arith}
 use Rattle.laws.proofs.Numbers.{compare-numbers}
 use Rattle.hall.specs.Hall.{Hall, count, is-choice, member, joins}
 use Rattle.hall.specs.Plan.{First, earlier, goes-before}
-use Rattle.dicuts.specs.Shores.{Ranged, once, Joining}
+use Rattle.dicuts.specs.Shores.{Ranged, once, unfixed-row, Joining}
 use Rattle.dicuts.proofs.Choices.{over}
 use Rattle.joining.proofs.Joining.{joining-mono}
 use Rattle.joining.proofs.Joins.{joins-joining, joining-joins}
 use Rattle.potentials.specs.Potential.{cost}
-use Rattle.order.specs.Ranked.{ranked}
+use Rattle.order.specs.Ranked.{ranked, Plannable}
 use Rattle.order.proofs.Dictionary.{earlier-total}
 use Rattle.order.proofs.Ranked.{ranked-same, ranked-before, dictionary-before}
 use Rattle.choicelists.specs.Listed.{listed}
 use Rattle.choicelists.proofs.Listed.{listed-choice, listed-member}
 use Rattle.choicelists.proofs.Totals.{over-choice, over-listed}
 use Rattle.choicelists.proofs.Leads.{leads-ext, earlier-leads}
+use Rattle.certificates.proofs.Charges.{ranked-unfixed}
 use Rattle.deciding.specs.Decided.{Decided}
 
-module _ (h : Hall) (ranged : Ranged h) (few : count h ≤ 256) (F : ℕ → Bool) (joining : Joining h (once F))
+module _ (h : Hall) (ranged : Ranged h) (able : Plannable h) (F : ℕ → Bool) (joining : Joining h (once F))
     (least : (G : ℕ → Bool) → Joining h (once G) → cost h (ranked h) F ≤ cost h (ranked h) G) (decided : Decided h (ranked h) F (count h)) where
+  is-chosen : is-choice h (listed h F) ≡ true
+  is-chosen = listed-choice h F (ranked-unfixed h able F (least (unfixed-row h) (able .joining)))
+
   listed-joins : joins h (listed h F) ≡ true
   listed-joins =
       joining-joins h ranged (listed h F)
@@ -41,13 +45,13 @@ module _ (h : Hall) (ranged : Ranged h) (few : count h ≤ 256) (F : ℕ → Boo
       ⊎-elim
       (λ (e : over (ranked h) c ≡ over (ranked h) d).
       ⊎-elim (λ (q : c ≡ d). absurd (ne q))
-      (⊎-elim (λ (t : earlier c d ≡ true). dictionary-before h few c d (listed-choice h F) choice e t)
+      (⊎-elim (λ (t : earlier c d ≡ true). dictionary-before h (able .few) c d is-chosen choice e t)
       (λ (t : earlier d c ≡ true).
-      absurd (decided G joining-d (omega arith) (leads-ext (count h) (λ i low high. refl) (listed-member h F) (earlier-leads h d c choice (listed-choice h F) t)))))
-      (earlier-total c d (ranked-same h few c d (listed-choice h F) choice e .1)))
-      (⊎-elim (λ (l : over (ranked h) c < over (ranked h) d). ranked-before h few c d (listed-choice h F) choice l)
+      absurd (decided G joining-d (omega arith) (leads-ext (count h) (λ i low high. refl) (listed-member h F) (earlier-leads h d c choice is-chosen t)))))
+      (earlier-total c d (ranked-same h (able .few) c d is-chosen choice e .1)))
+      (⊎-elim (λ (l : over (ranked h) c < over (ranked h) d). ranked-before h (able .few) c d is-chosen choice l)
       (λ (l : over (ranked h) d < over (ranked h) c). absurd (omega arith)))
       (compare-numbers (over (ranked h) c) (over (ranked h) d))
 
   pub decided-first : First h (listed h F)
-  decided-first = record { choice = listed-choice h F; joining = listed-joins; before = goes-first }
+  decided-first = record { choice = is-chosen; joining = listed-joins; before = goes-first }

@@ -1,15 +1,16 @@
--- A sum over a choice's list is a sum over all rows, by the members; its total is such a sum, and so are the rows that enter a shore. Assumes nothing.
+-- Choices: ascending lists of rows that are not fixed. A sum over a choice is a sum over all rows, by the members; its total is such a sum, and so are the rows that enter a shore. Assumes nothing.
 use mathlib.Core.Path.{_≡_, refl, sym, ap, _∙_}
-use mathlib.Core.Bool.{Bool, true, false, _&&_, _||_, cond}
+use mathlib.Core.Bool.{Bool, true, false, _&&_, _||_, not, cond}
 use mathlib.Core.List.{List, [], _∷_}
+use mathlib.Core.Logic.{⊎-elim}
 use Prim.Native.Nat.{ℕ, suc, _+_, _-_, _<_, _≤_}
 use native.Mathlib.Omega.{arith}
 use lib.Dec.{eqb, leb}
-use borrow.Author.Tests.{leb-true, eqb-true, eqb-false, ne-eqb, eq-eqb}
+use borrow.Author.Tests.{leb-true, le-leb, eqb-true, eqb-false, ne-eqb, eq-eqb, not-true}
 use Rattle.laws.specs.Finite.{sum-below, one-if}
-use Rattle.laws.proofs.Booleans.{by-bool, and-l, and-r}
+use Rattle.laws.proofs.Booleans.{by-bool, clash, and-l, and-r, and-i, or-cases, or-l, or-r}
 use Rattle.laws.proofs.Finite.{sum-ext, sum-add, sum-zero, sum-one}
-use Rattle.hall.specs.Hall.{Hall, row, count, enters, ascends-from, is-choice, entering, member}
+use Rattle.hall.specs.Hall.{Hall, row, count, enters, ascends-from, none-fixed, is-choice, entering, member}
 use Rattle.hall.specs.Plan.{total}
 use Rattle.dicuts.specs.Shores.{cover, once}
 
@@ -31,6 +32,18 @@ pub ascends-rest : (a l i : ℕ) (is : List ℕ) → ascends-from a l (i ∷ is)
 unfolding ascends-from
 ascends-rest a l i is e = and-r (leb a i && leb i l) (ascends-from (suc i) l is) e
 
+-- what ascends from a number ascends with one before it, and from any earlier number
+pub ascends-cons : (a l x : ℕ) (xs : List ℕ) → a ≤ x → x ≤ l → ascends-from (suc x) l xs ≡ true → ascends-from a l (x ∷ xs) ≡ true
+unfolding ascends-from
+ascends-cons a l x xs low high rest =
+    and-i (leb a x && leb x l) (ascends-from (suc x) l xs) (and-i (leb a x) (leb x l) (le-leb a x low) (le-leb x l high)) rest
+
+pub ascends-earlier : (a b l : ℕ) (d : List ℕ) → a ≤ b → ascends-from b l d ≡ true → ascends-from a l d ≡ true
+unfolding ascends-from
+ascends-earlier a b l [] h e = refl
+ascends-earlier a b l (x ∷ xs) h e =
+    ascends-cons a l x xs (omega (arith, ascends-low b l x xs e)) (ascends-high b l x xs e) (ascends-rest b l x xs e)
+
 -- nothing below the start is a member
 pub ascends-skips : (a l : ℕ) (c : List ℕ) (v : ℕ) → ascends-from a l c ≡ true → v < a → member v c ≡ false
 unfolding member
@@ -38,6 +51,17 @@ ascends-skips a l [] v e h = refl
 ascends-skips a l (i ∷ is) v e h =
     let low = ascends-low a l i is e in
     rw (ne-eqb i v (λ q. omega arith)) (ascends-skips (suc i) l is v (ascends-rest a l i is e) (omega arith))
+
+-- members are within the limits
+pub ascends-members : (l a : ℕ) (c : List ℕ) (v : ℕ) → ascends-from a l c ≡ true → member v c ≡ true → (a ≤ v) × (v ≤ l)
+unfolding member
+ascends-members l a [] v e t = clash t refl
+ascends-members l a (i ∷ is) v e t =
+    let low = ascends-low a l i is e in
+    let high = ascends-high a l i is e in
+    ⊎-elim (λ (q : eqb i v ≡ true). omega (arith, eqb-true i v q))
+    (λ (q : member v is ≡ true). let r = ascends-members l (suc i) is v (ascends-rest a l i is e) q in (omega arith, r .1))
+    (or-cases (eqb i v) (member v is) t)
 
 pub over-members : (f : ℕ → ℕ) (a l : ℕ) (c : List ℕ) → 1 ≤ a → ascends-from a l c ≡ true → over f c ≡ sum-below l (λ k. cond (member (suc k) c) (f (suc k)) 0)
 unfolding over member
@@ -66,6 +90,37 @@ over-members f a l (i ∷ is) one e =
         rw (q, eq-eqb k (i - 1) (omega arith), ascends-skips (suc i) l is (suc k) rest (omega arith)) (omega arith))
         (λ q. let ne = eqb-false i (suc k) q in rw (q, ne-eqb k (i - 1) (λ z. ne (omega arith))) (omega arith))
 
+-- the two tests of a choice
+module _ (h : Hall) where
+  none-fixed-at : (c : List ℕ) (i : ℕ) → none-fixed h c ≡ true → member i c ≡ true → row h i .fixed ≡ false
+  unfolding none-fixed member
+  none-fixed-at [] i e t = clash t refl
+  none-fixed-at (x ∷ xs) i e t =
+      ⊎-elim
+      (λ (q : eqb x i ≡ true).
+      let same : x ≡ i = eqb-true x i q in
+      sym (ap (λ (j : ℕ). row h j .fixed) same) ∙ not-true (row h x .fixed) (and-l (not (row h x .fixed)) (none-fixed h xs) e))
+      (λ (q : member i xs ≡ true). none-fixed-at xs i (and-r (not (row h x .fixed)) (none-fixed h xs) e) q) (or-cases (eqb x i) (member i xs) t)
+
+  at-none-fixed : (c : List ℕ) → ((i : ℕ) → member i c ≡ true → row h i .fixed ≡ false) → none-fixed h c ≡ true
+  unfolding none-fixed member
+  at-none-fixed [] f = refl
+  at-none-fixed (x ∷ xs) f =
+      and-i (not (row h x .fixed)) (none-fixed h xs) (ap not (f x (or-l (eqb x x) (member x xs) (eq-eqb x x refl))))
+      (at-none-fixed xs (λ i t. f i (or-r (eqb x i) (member i xs) t)))
+
+  pub choice-ascends : (c : List ℕ) → is-choice h c ≡ true → ascends-from 1 (count h) c ≡ true
+  unfolding is-choice
+  choice-ascends c e = and-l (ascends-from 1 (count h) c) (none-fixed h c) e
+
+  pub choice-unfixed : (c : List ℕ) (i : ℕ) → is-choice h c ≡ true → member i c ≡ true → row h i .fixed ≡ false
+  unfolding is-choice
+  choice-unfixed c i e = none-fixed-at c i (and-r (ascends-from 1 (count h) c) (none-fixed h c) e)
+
+  pub ascends-choice : (c : List ℕ) → ascends-from 1 (count h) c ≡ true → ((i : ℕ) → member i c ≡ true → row h i .fixed ≡ false) → is-choice h c ≡ true
+  unfolding is-choice
+  ascends-choice c e f = and-i (ascends-from 1 (count h) c) (none-fixed h c) e (at-none-fixed c f)
+
 pub total-over : (h : Hall) (c : List ℕ) → total h c ≡ over (λ i. row h i .price) c
 unfolding total over
 total-over h [] = refl
@@ -85,8 +140,8 @@ both-tests false false = refl
 
 -- how many chosen rows enter a shore, as a cover
 pub entering-cover : (h : Hall) (s : ℕ) (c : List ℕ) → is-choice h c ≡ true → entering h s c ≡ cover h (once (λ i. member i c)) s
-unfolding is-choice cover once
+unfolding cover once
 entering-cover h s c e =
-    entering-over h s c ∙ over-members (λ i. cond (enters s (row h i)) 1 0) 1 (count h) c (omega arith) e
+    entering-over h s c ∙ over-members (λ i. cond (enters s (row h i)) 1 0) 1 (count h) c (omega arith) (choice-ascends h c e)
     ∙ sum-ext (count h) (λ k. cond (member (suc k) c) (cond (enters s (row h (suc k))) 1 0) 0) (λ k. cond (enters s (row h (suc k))) (one-if (member (suc k) c)) 0)
     (λ k l. both-tests (member (suc k) c) (enters s (row h (suc k))))

@@ -35,6 +35,10 @@ cover h x s = sum-below (count h) (λ k. cond (enters s (row h (suc k))) (x (suc
 unfoldable pub once : (rows : ℕ → Bool) → ℕ → ℕ
 once F i = one-if (F i)
 
+-- the rows that are not fixed
+abbrev pub unfixed-row : Hall → (i : ℕ) → Bool
+unfixed-row h i = not (row h i .fixed)
+
 -- JOINING (a dijoin, with multiplicities): every shore is entered
 unfoldable pub Joining : Hall → (x : ℕ → ℕ) → Type 0
 Joining h x = (s : ℕ) → Shore h s → 1 ≤ cover h x s

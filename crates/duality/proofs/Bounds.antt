@@ -8,7 +8,7 @@ use native.Mathlib.Omega.{arith}
 use lib.ListN.{length, getD}
 use Rattle.hall.specs.Hall.{Hall, row, count, enters, is-choice, entering, member}
 use Rattle.hall.specs.Plan.{Cut, cuts-good, load, weight-sum}
-use Rattle.dicuts.proofs.Choices.{over}
+use Rattle.dicuts.proofs.Choices.{over, ascends-members, choice-ascends, choice-unfixed}
 use Rattle.duality.specs.Weighted.{weight-met, Meets-all, Carried}
 use Rattle.duality.proofs.Over.{over-add, over-zero, over-entering, over-le, over-same}
 use Rattle.duality.proofs.Cuts.{good-cut, good-weight, good-rest}
@@ -50,22 +50,22 @@ module _ (h : Hall) (d : List ℕ) (meeting : Meets-all h d) where
       (arith, at-least-once (k .weight) (entering h (k .shore) d) (meeting (k .shore) (good-cut h a k ks good)), weights-met (suc (k .shore)) ks (good-rest h a k ks good)))
       j none (omega arith)
 
-  module _ (choice : is-choice h d ≡ true) (ks : List Cut) (a : ℕ) (good : cuts-good h a ks ≡ true) where
-    -- over any costs that carry the weights
-    pub weights-below : (cost : ℕ → ℕ) → Carried h cost ks → weight-sum ks ≤ over cost d
-    unfolding Carried is-choice
-    weights-below cost carried =
-        omega (arith, weights-met a ks good, loads-met h ks d, over-le (λ i. load ks (row h i)) cost (count h) 1 d choice carried)
+  module _ (choice : is-choice h d ≡ true) (ks : List Cut) (a : ℕ) (good : cuts-good h a ks ≡ true) (cost : ℕ → ℕ) (carried : Carried h cost ks) where
+    chosen-carried : (i : ℕ) → member i d ≡ true → load ks (row h i) ≤ cost i
+    unfolding Carried
+    chosen-carried i e =
+        let within = ascends-members (count h) 1 d i (choice-ascends h d choice) e in carried i (within .0) (within .1) (choice-unfixed h d i choice e)
 
-    module _ (cost : ℕ → ℕ) (carried : Carried h cost ks) (sum : weight-sum ks ≡ over cost d) where
+    -- over any costs that carry the weights
+    pub weights-below : weight-sum ks ≤ over cost d
+    weights-below = omega (arith, weights-met a ks good, loads-met h ks d, over-le (λ i. load ks (row h i)) cost d chosen-carried)
+
+    module _ (sum : weight-sum ks ≡ over cost d) where
       pub loads-full : (i : ℕ) → member i d ≡ true → load ks (row h i) ≡ cost i
-      unfolding Carried is-choice
       loads-full =
-          over-same (λ i. load ks (row h i)) cost (count h) 1 d choice carried
-          (omega (arith, weights-met a ks good, loads-met h ks d, over-le (λ i. load ks (row h i)) cost (count h) 1 d choice carried))
+          over-same (λ i. load ks (row h i)) cost d chosen-carried
+          (omega (arith, weights-met a ks good, loads-met h ks d, over-le (λ i. load ks (row h i)) cost d chosen-carried))
 
       pub cuts-met-once : (j : ℕ) (none : Cut) → j < length ks → entering h (getD ks j none .shore) d ≡ 1
-      unfolding Carried is-choice
       cuts-met-once =
-          met-once a ks good
-          (omega (arith, weights-met a ks good, loads-met h ks d, over-le (λ i. load ks (row h i)) cost (count h) 1 d choice carried))
+          met-once a ks good (omega (arith, weights-met a ks good, loads-met h ks d, over-le (λ i. load ks (row h i)) cost d chosen-carried))

@@ -3,14 +3,14 @@ use mathlib.Core.Path.{_≡_, refl, ap}
 use mathlib.Core.Bool.{true, cond}
 use mathlib.Core.List.{List, [], _∷_}
 use mathlib.Core.Logic.{⊎-elim}
-use Prim.Native.Nat.{ℕ, suc, _+_, _*_, _≤_}
+use Prim.Native.Nat.{ℕ, _+_, _*_, _≤_}
 use native.Mathlib.Nat.{zero-add}
 use native.Mathlib.Omega.{arith}
 use lib.Dec.{eqb}
-use borrow.Author.Tests.{eqb-true}
-use Rattle.laws.proofs.Booleans.{by-bool, clash, or-cases}
-use Rattle.hall.specs.Hall.{Hall, row, enters, entering, ascends-from, member}
-use Rattle.dicuts.proofs.Choices.{over, ascends-low, ascends-high, ascends-rest}
+use borrow.Author.Tests.{eqb-true, eq-eqb}
+use Rattle.laws.proofs.Booleans.{by-bool, clash, or-cases, or-l, or-r}
+use Rattle.hall.specs.Hall.{Hall, row, enters, entering, member}
+use Rattle.dicuts.proofs.Choices.{over}
 
 pub over-add : (f g : ℕ → ℕ) (d : List ℕ) → over (λ i. f i + g i) d ≡ over f d + over g d
 unfolding over
@@ -30,25 +30,20 @@ over-entering h s w (i ∷ is) =
     by-bool (enters s (row h i)) (λ e. rw e (omega (arith, over-entering h s w is)))
     (λ e. rw e (omega (arith, over-entering h s w is, ap (λ (z : ℕ). w * z) (zero-add (entering h s is)))))
 
-module _ (f g : ℕ → ℕ) (l : ℕ) where
-  pub over-le : (a : ℕ) (d : List ℕ) → ascends-from a l d ≡ true → ((i : ℕ) → a ≤ i → i ≤ l → f i ≤ g i) → over f d ≤ over g d
-  unfolding over
-  over-le a [] asc le = omega arith
-  over-le a (i ∷ is) asc le =
-      let low = ascends-low a l i is asc in
-      let here = le i low (ascends-high a l i is asc) in
-      omega (arith, over-le (suc i) is (ascends-rest a l i is asc) (λ j p q. le j (omega arith) q))
+module _ (f g : ℕ → ℕ) where
+  pub over-le : (d : List ℕ) → ((i : ℕ) → member i d ≡ true → f i ≤ g i) → over f d ≤ over g d
+  unfolding over member
+  over-le [] le = omega arith
+  over-le (x ∷ xs) le =
+      omega (arith, le x (or-l (eqb x x) (member x xs) (eq-eqb x x refl)), over-le xs (λ i e. le i (or-r (eqb x i) (member i xs) e)))
 
   -- where sums are the same, so is every place
-  pub over-same : (a : ℕ) (d : List ℕ) → ascends-from a l d ≡ true → ((i : ℕ) → a ≤ i → i ≤ l → f i ≤ g i) → over f d ≡ over g d
-      → (i : ℕ) → member i d ≡ true → f i ≡ g i
+  pub over-same : (d : List ℕ) → ((i : ℕ) → member i d ≡ true → f i ≤ g i) → over f d ≡ over g d → (i : ℕ) → member i d ≡ true → f i ≡ g i
   unfolding over member
-  over-same a [] asc le same i e = clash e refl
-  over-same a (x ∷ xs) asc le same i e =
-      let low = ascends-low a l x xs asc in
-      let rest = ascends-rest a l x xs asc in
-      let more : (j : ℕ) → suc x ≤ j → j ≤ l → f j ≤ g j = λ j p q. le j (omega arith) q in
-      let here = le x low (ascends-high a l x xs asc) in
-      let tail = over-le (suc x) xs rest more in
+  over-same [] le same i e = clash e refl
+  over-same (x ∷ xs) le same i e =
+      let more : (j : ℕ) → member j xs ≡ true → f j ≤ g j = λ j q. le j (or-r (eqb x j) (member j xs) q) in
+      let here = le x (or-l (eqb x x) (member x xs) (eq-eqb x x refl)) in
+      let tail = over-le xs more in
       ⊎-elim (λ (q : eqb x i ≡ true). let r : x ≡ i = eqb-true x i q in rw (← r) (omega arith))
-      (λ (q : member i xs ≡ true). over-same (suc x) xs rest more (omega arith) i q) (or-cases (eqb x i) (member i xs) e)
+      (λ (q : member i xs ≡ true). over-same xs more (omega arith) i q) (or-cases (eqb x i) (member i xs) e)

@@ -1,6 +1,6 @@
 -- What a choice meets of weighted cuts, and weights that costs can carry. Assumes nothing: these are definitions.
 use mathlib.Core.Path.{_≡_}
-use mathlib.Core.Bool.{true}
+use mathlib.Core.Bool.{true, false}
 use mathlib.Core.List.{List, [], _∷_}
 use Prim.Native.Nat.{ℕ, _+_, _*_, _≤_}
 use Rattle.hall.specs.Hall.{Hall, row, count, is-cut, entering}
@@ -15,6 +15,6 @@ weight-met h (k ∷ ks) d = k .weight * entering h (k .shore) d + weight-met h k
 unfoldable pub Meets-all : Hall → List ℕ → Type 0
 Meets-all h d = (s : ℕ) → is-cut h s ≡ true → 1 ≤ entering h s d
 
--- the load of every row is within its cost
+-- the load of every row that is not fixed is within its cost
 unfoldable pub Carried : Hall → (cost : ℕ → ℕ) → List Cut → Type 0
-Carried h cost ks = (i : ℕ) → 1 ≤ i → i ≤ count h → load ks (row h i) ≤ cost i
+Carried h cost ks = (i : ℕ) → 1 ≤ i → i ≤ count h → row h i .fixed ≡ false → load ks (row h i) ≤ cost i

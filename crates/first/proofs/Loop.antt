@@ -15,7 +15,7 @@ use Rattle.hall.specs.Hall.{Hall, count}
 use Rattle.hall.specs.Plan.{First}
 use Rattle.dicuts.specs.Shores.{Ranged}
 use Rattle.potentials.specs.Repair.{Repaired}
-use Rattle.order.specs.Ranked.{ranked}
+use Rattle.order.specs.Ranked.{ranked, Plannable}
 use Rattle.choicelists.specs.Listed.{listed}
 use Rattle.deciding.specs.Decided.{rows-after}
 use Rattle.deciding.specs.Deciding.{Deciding}
@@ -60,7 +60,7 @@ module _ (h : Hall) (rg : Ranged h) (n m : ℕ) (ts hs : List ℕ) (cols : Colum
       deciding-same h rg (ranked h) (at costs) (λ i l u. sym (costs-ranked i l u)) p p (λ j l u. refl) F F (λ i l u. refl) 0 (omega arith)
       (deciding-start h rg (ranked h) p F done)
 
-  pub first-end : m ≤ 256 → (p : ℕ → ℕ) (F : ℕ → Bool) → Deciding h (at costs) m p F → First h (listed h F)
-  first-end few p F done =
-      deciding-end h rg (omega (arith, cols .rows)) p F
+  pub first-end : Plannable h → (p : ℕ → ℕ) (F : ℕ → Bool) → Deciding h (at costs) m p F → First h (listed h F)
+  first-end able p F done =
+      deciding-end h rg able p F
       (deciding-same h rg (at costs) (ranked h) costs-ranked p p (λ j l u. refl) F F (λ i l u. refl) (count h) (omega arith) (rw (sym (cols .rows)) at done))

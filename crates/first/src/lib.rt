@@ -14,7 +14,7 @@ ghost use Rattle.hall.specs.Hall.{Hall};
 ghost use Rattle.hall.specs.Plan.{First};
 ghost use Rattle.dicuts.specs.Shores.{Ranged};
 ghost use Rattle.potentials.specs.Repair.{Repaired};
-ghost use Rattle.order.specs.Ranked.{ranked};
+ghost use Rattle.order.specs.Ranked.{ranked, Plannable};
 ghost use Rattle.choicelists.specs.Listed.{listed};
 ghost use Rattle.columns.specs.Columns.{flagged, Ends, Columns, Neighbourhoods};
 ghost use Rattle.zerograph.specs.Low.{Low};
@@ -102,7 +102,7 @@ pub fn decide_all<'a>(
 ) -> [bool; 256]
     requires { ⌜ Ends n m (now tails) (now heads) × Low (now costs) × ((j : ℕ) → getD (now potential) j 0 < 2 ^ 61)
         × (length (now chosen) ≡ 256) ⌝ }
-    ensures { λ r. ⌜ ((h : Hall) → Columns h n m (now (tails .entry)) (now (heads .entry)) → Ranged h →
+    ensures { λ r. ⌜ ((h : Hall) → Columns h n m (now (tails .entry)) (now (heads .entry)) → Ranged h → Plannable h →
         ((i : ℕ) → 1 ≤ i → i ≤ m → at (now (costs .entry)) i ≡ ranked h i) →
         Repaired h (ranked h) (at (now (potential .entry))) (flagged (now (chosen .entry))) →
         Neighbourhoods h (flagged (now (chosen .entry))) (now (around .entry)) →

@@ -4,6 +4,7 @@ pub mod Reached
 pub mod Joining
 pub mod Joins
 pub mod Connected
+pub mod Openable
 pub mod Sound
 pub mod Accepted
 pub mod Promise

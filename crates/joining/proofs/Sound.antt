@@ -1,4 +1,4 @@
--- A file is refused with none of 2 to 8 exactly if it is sound; then only 9 is left to ask. Assumes nothing.
+-- A file is refused with none of 2 to 8 exactly if it is sound; then only 9 and 15 are left to ask. Assumes nothing.
 use mathlib.Core.Path.{_≡_, refl, ap, _∙_}
 use mathlib.Core.Bool.{Bool, true, false, _&&_, not, cond}
 use mathlib.Core.List.{List, [], _∷_}
@@ -9,7 +9,7 @@ use lib.ListN.{length, getD}
 use borrow.Author.Tests.{eqb-true, eq-eqb, leb-true, le-leb, ltb-false, le-ltb, not-false}
 use Rattle.laws.proofs.Booleans.{by-bool, and-l, and-r, and-i, cond-true, cond-false}
 use Rattle.hall.specs.Hall.{Row, hall, row, row-of, count}
-use Rattle.hall.specs.File.{field, blocks, pairs-good, hall-in, Refusal, refusal, or-else, row-number, rows-refusal, connected, hall-refusal}
+use Rattle.hall.specs.File.{field, blocks, pairs-good, hall-in, Refusal, refusal, or-else, row-number, rows-refusal, connected, openable, hall-refusal}
 use Rattle.dicuts.specs.Shores.{Ranged}
 use Rattle.joining.specs.Sound.{Row-ends, Sound}
 
@@ -125,24 +125,25 @@ module _ (bs : List ℕ) where
   abbrev rows-first : Refusal
   rows-first = rows-refusal 1 (field 0 2 bs) (hall-in bs .rows)
 
-  abbrev unjoined : Refusal
-  unjoined = cond (connected (hall-in bs)) (refusal 0 0) (refusal 9 0)
+  -- 9, or 15, or none
+  abbrev pub walked : Refusal
+  walked = cond (connected (hall-in bs)) (cond (openable (hall-in bs)) (refusal 0 0) (refusal 15 0)) (refusal 9 0)
 
-  in-stages : hall-refusal bs ≡ staged length-wrong junctions-wrong (not blocks-right) rows-many (or-else rows-first unjoined)
+  in-stages : hall-refusal bs ≡ staged length-wrong junctions-wrong (not blocks-right) rows-many (or-else rows-first walked)
   unfolding hall-refusal staged
   in-stages = refl
 
   passed : Other (hall-refusal bs .number) → (length-wrong ≡ false) × (junctions-wrong ≡ false) × (not blocks-right ≡ false) × (rows-many ≡ false)
   passed f =
       let e = ap (λ (x : Refusal). x .number) in-stages in
-      staged-passed length-wrong junctions-wrong (not blocks-right) rows-many (or-else rows-first unjoined) (λ a b. f (omega (arith, e)) (omega (arith, e)))
+      staged-passed length-wrong junctions-wrong (not blocks-right) rows-many (or-else rows-first walked) (λ a b. f (omega (arith, e)) (omega (arith, e)))
 
   fits : Other (hall-refusal bs .number) → (k : ℕ) → k < length (hall-in bs .rows) → Fit (field 0 2 bs) (getD (hall-in bs .rows) k (row-of 0 0 0))
   fits f =
       let w = passed f in
       let e = ap (λ (x : Refusal). x .number)
-      (in-stages ∙ staged-rest length-wrong junctions-wrong (not blocks-right) rows-many (or-else rows-first unjoined) (w .0) (w .1) (w .2) (w .3)) in
-      rows-fit 1 (field 0 2 bs) (hall-in bs .rows) (else-first rows-first unjoined (λ a b. f (omega (arith, e)) (omega (arith, e))))
+      (in-stages ∙ staged-rest length-wrong junctions-wrong (not blocks-right) rows-many (or-else rows-first walked) (w .0) (w .1) (w .2) (w .3)) in
+      rows-fit 1 (field 0 2 bs) (hall-in bs .rows) (else-first rows-first walked (λ a b. f (omega (arith, e)) (omega (arith, e))))
 
   -- a file that is refused with none of 2 to 8 is sound
   pub other-sound : Other (hall-refusal bs .number) → Sound bs
@@ -176,20 +177,20 @@ module _ (bs : List ℕ) where
         price = rw e at (g .price (suc k) (omega arith) (omega arith));
       }
 
-  -- of a sound file only 9 is left to ask
-  pub sound-refusal : Sound bs → hall-refusal bs ≡ cond (connected (hall-in bs)) (refusal 0 0) (refusal 9 0)
+  -- of a sound file only 9 and 15 are left to ask
+  pub sound-refusal : Sound bs → hall-refusal bs ≡ walked
   unfolding hall-in hall or-else refusal
   sound-refusal g =
       let rest = leb (4 + 8 * blocks bs) (length bs) && pairs-good (blocks bs) 0 (4 + 8 * blocks bs) bs in
       let rows-none : rows-first ≡ refusal 0 0 = fit-rows 1 (field 0 2 bs) (hall-in bs .rows) (sound-fits g) in
       in-stages
-      ∙ staged-rest length-wrong junctions-wrong (not blocks-right) rows-many (or-else rows-first unjoined)
+      ∙ staged-rest length-wrong junctions-wrong (not blocks-right) rows-many (or-else rows-first walked)
       (ap not (and-i (leb 4 (length bs)) (leb (length bs) 65536) (le-leb 4 (length bs) (g .long-enough)) (le-leb (length bs) 65536 (g .not-too-long))))
       (ap not (and-i (leb 1 (field 0 2 bs)) (leb (field 0 2 bs) 64) (le-leb 1 (field 0 2 bs) (g .junctions-some)) (le-leb (field 0 2 bs) 64 (g .junctions-few))))
       (ap not (and-i (leb (blocks bs) 16) rest (le-leb (blocks bs) 16 (g .blocks-few))
       (and-i (leb (4 + 8 * blocks bs) (length bs)) (pairs-good (blocks bs) 0 (4 + 8 * blocks bs) bs) (le-leb (4 + 8 * blocks bs) (length bs) (g .blocks-fit)) (g .blocks-good))))
       (le-ltb 256 (count (hall-in bs)) (g .rows-few))
-      ∙ ap (λ (x : Refusal). or-else x unjoined) rows-none
+      ∙ ap (λ (x : Refusal). or-else x walked) rows-none
 
   pub sound-ranged : Sound bs → Ranged (hall-in bs)
   sound-ranged g = record {
@@ -200,9 +201,13 @@ module _ (bs : List ℕ) where
     to-high = λ i l m. g .ends i l m .to-high;
   }
 
-  -- a sound file whose hall is connected is not refused; one whose hall is not is refused with 9
-  pub sound-connected : Sound bs → connected (hall-in bs) ≡ true → hall-refusal bs ≡ refusal 0 0
-  sound-connected g e = sound-refusal g ∙ cond-true (connected (hall-in bs)) (refusal 0 0) (refusal 9 0) e
-
+  -- a sound file is refused with 9 where its hall is not connected, then with 15 where it is not openable, and else not refused
   pub sound-unconnected : Sound bs → connected (hall-in bs) ≡ false → hall-refusal bs ≡ refusal 9 0
-  sound-unconnected g e = sound-refusal g ∙ cond-false (connected (hall-in bs)) (refusal 0 0) (refusal 9 0) e
+  sound-unconnected g e = sound-refusal g ∙ rw e
+
+  module _ (g : Sound bs) (joined : connected (hall-in bs) ≡ true) where
+    pub sound-unopenable : openable (hall-in bs) ≡ false → hall-refusal bs ≡ refusal 15 0
+    sound-unopenable e = sound-refusal g ∙ rw (joined, e)
+
+    pub sound-openable : openable (hall-in bs) ≡ true → hall-refusal bs ≡ refusal 0 0
+    sound-openable e = sound-refusal g ∙ rw (joined, e)

@@ -1,4 +1,5 @@
 pub mod Sound
 pub mod Sealed
 pub mod Split
+pub mod Fixed
 pub mod Promise

@@ -1,4 +1,4 @@
--- What is promised of checks and of halls that fall apart: the second demand. Each statement is a type; proofs/Promise.antt proves it. Assumes nothing.
+-- What is promised of checks, of halls that fall apart and of halls that cannot be opened: the second demand, and 15. Each statement is a type; proofs/Promise.antt proves it. Assumes nothing.
 use mathlib.Core.Path.{_≡_}
 use mathlib.Core.Bool.{Bool, true, _&&_}
 use mathlib.Core.List.{List, [], _∷_}
@@ -9,13 +9,14 @@ use Rattle.hall.specs.Hall.{is-cut, is-choice, meets-all, joins, missed, enteri
 use Rattle.hall.specs.File.{hall-in, hall-refusal, refusal}
 use Rattle.joining.specs.Sound.{Sound}
 use Rattle.joining.specs.Split.{Split}
+use Rattle.joining.specs.Fixed.{Fixed-cut}
 
 -- every number is a byte
 unfoldable pub all-bytes : List ℕ → Bool
 all-bytes [] = true
 all-bytes (x ∷ xs) = ltb x 256 && all-bytes xs
 
--- AN ACCEPTED HALL: bytes that meet none of conditions 2 to 9
+-- AN ACCEPTED HALL: bytes that meet none of conditions 2 to 9 and 15
 unfoldable pub accepted : List ℕ → Bool
 accepted bs = all-bytes bs && eqb (hall-refusal bs .number) 0
 
@@ -36,3 +37,9 @@ unfoldable pub Unjoined-exactly : Type 0
 Unjoined-exactly =
     (bs : List ℕ) → Sound bs →
     (hall-refusal bs ≡ refusal 9 0 → (s : ℕ) × Split (hall-in bs) s) × ((s : ℕ) → Split (hall-in bs) s → hall-refusal bs ≡ refusal 9 0)
+
+-- one that does not fall apart is refused, with 15, exactly if some directed cut has fixed rows only
+unfoldable pub Fixed-exactly : Type 0
+Fixed-exactly =
+    (bs : List ℕ) → Sound bs → (hall-refusal bs ≡ refusal 9 0 → ⊥) →
+    (hall-refusal bs ≡ refusal 15 0 → (s : ℕ) × Fixed-cut (hall-in bs) s) × ((s : ℕ) → Fixed-cut (hall-in bs) s → hall-refusal bs ≡ refusal 15 0)

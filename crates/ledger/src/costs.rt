@@ -1,31 +1,43 @@
-// Costs from prices, and a potential for the ranked costs.
+// Costs from prices and marks, and a potential for the ranked costs.
+ghost use mathlib.Core.Path.{_≡_};
+ghost use mathlib.Core.Bool.{cond};
 ghost use Prim.Native.Nat.{ℕ, _+_, _*_, _^_, _≤_, _<_};
 ghost use lib.ListN.{getD};
-ghost use Rattle.ledger.specs.Padded.{Padded, Prices-low};
+ghost use Rattle.ledger.specs.Padded.{Padded, charged, Charges-low};
 
-// The prices of the first m rows.
-pub fn price_costs(m: usize, prices: &[u32; 256]) -> [u64; 256]
-    requires { ⌜ (m ≤ 256) × Prices-low m (now prices) ⌝ }
-    ensures { λ r. ⌜ Padded 256 (λ (k : ℕ). getD (now (prices .entry)) k 0) m r ⌝ }
+// More than 256 prices together: what no choice costs.
+const FIXED: u64 = 256_000_001;
+
+// The charge of a row: its price, or more than any choice costs.
+fn charge(price: u32, fixed: bool) -> u64
+    ensures { λ r. ⌜ r ≡ cond fixed 256000001 price ⌝ }
+{
+    if fixed { FIXED } else { price as u64 }
+}
+
+// The charges of the first m rows.
+pub fn charges<'a>(m: usize, prices: &'a [u32; 256], fixed: &'a [bool; 256]) -> [u64; 256]
+    requires { ⌜ m ≤ 256 ⌝ }
+    ensures { λ r. ⌜ Padded 256 (charged (now (prices .entry)) (now (fixed .entry))) m r ⌝ }
 {
     let mut costs = [0u64; 256];
     let mut k: usize = 0;
     while k < m {
-        costs[k] = prices[k] as u64;
+        costs[k] = charge(prices[k], fixed[k]);
         k += 1;
     }
     costs
 }
 
-// The ranked costs of the first m rows: they decide by total, then by row count.
-pub fn ranked_costs(m: usize, prices: &[u32; 256]) -> [u64; 256]
-    requires { ⌜ (m ≤ 256) × Prices-low m (now prices) ⌝ }
-    ensures { λ r. ⌜ Padded 256 (λ (k : ℕ). 257 * getD (now (prices .entry)) k 0 + 1) m r ⌝ }
+// The ranked costs of the first m rows, from their charges: they decide by total, then by row count.
+pub fn ranked_costs(m: usize, charges: &[u64; 256]) -> [u64; 256]
+    requires { ⌜ (m ≤ 256) × Charges-low m (now charges) ⌝ }
+    ensures { λ r. ⌜ Padded 256 (λ (k : ℕ). 257 * getD (now (charges .entry)) k 0 + 1) m r ⌝ }
 {
     let mut costs = [0u64; 256];
     let mut k: usize = 0;
     while k < m {
-        costs[k] = 257 * (prices[k] as u64) + 1;
+        costs[k] = 257 * charges[k] + 1;
         k += 1;
     }
     costs

@@ -9,7 +9,7 @@ use lib.Dec.{leb, eqb}
 use borrow.Author.Tests.{le-leb, eqb-true, eqb-false}
 use Rattle.laws.proofs.Booleans.{by-bool, clash, and-i}
 use Rattle.hall.specs.Hall.{ascends-from}
-use Rattle.dicuts.proofs.Choices.{ascends-low, ascends-high, ascends-rest}
+use Rattle.dicuts.proofs.Choices.{ascends-low, ascends-high, ascends-rest, ascends-cons, ascends-earlier}
 use Rattle.order.specs.Least.{At-most, Order, Outcome, Passes, After}
 
 module _ (A : Type 0) (before : A → A → Bool) (order : Order A before) where
@@ -65,18 +65,6 @@ after-least before a l p (inl w) =
             (λ (q : before (a ∷ w .0) (a ∷ t .0) ≡ true). inr (rw (t .1) q)) (w .1 .least (t .0) (t .2));
       },
     )
-
--- what ascends from a number ascends with one before it, and from any earlier number
-pub ascends-cons : (a l x : ℕ) (xs : List ℕ) → a ≤ x → x ≤ l → ascends-from (suc x) l xs ≡ true → ascends-from a l (x ∷ xs) ≡ true
-unfolding ascends-from
-ascends-cons a l x xs low high rest =
-    and-i (leb a x && leb x l) (ascends-from (suc x) l xs) (and-i (leb a x) (leb x l) (le-leb a x low) (le-leb x l high)) rest
-
-pub ascends-earlier : (a b l : ℕ) (d : List ℕ) → a ≤ b → ascends-from b l d ≡ true → ascends-from a l d ≡ true
-unfolding ascends-from
-ascends-earlier a b l [] h e = refl
-ascends-earlier a b l (x ∷ xs) h e =
-    ascends-cons a l x xs (omega (arith, ascends-low b l x xs e)) (ascends-high b l x xs e) (ascends-rest b l x xs e)
 
 -- an ascending list from a begins with a, or ascends from suc a
 pub split-first : (a l : ℕ) (p : List ℕ → Bool) (d : List ℕ) → Passes a l p d → Passes (suc a) l p d ⊎ After a l p d

@@ -59,7 +59,7 @@ module _ (h : Hall) (n m : ℕ) (tails heads costs : List ℕ) (rows chosen : Li
                 arith,
                 zero-level j l u,
                 slack-rows,
-                cost-most h (at costs) (flagged rows) (2 ^ 53 - 1) (λ i low high. omega (arith, modest (i - 1))),
+                cost-most h (at costs) (flagged rows) (2 ^ 53 - 1) (λ i low high t. omega (arith, modest (i - 1))),
                 rd .columns .rows,
                 ends .few,
                 mul-le-mul-right {m = count h} {n = 256} (2 ^ 53 - 1) (omega (arith, rd .columns .rows, ends .few)),

@@ -8,7 +8,7 @@ ghost use Rattle.hall.specs.Hall.{Hall};
 ghost use Rattle.hall.specs.Plan.{First};
 ghost use Rattle.dicuts.specs.Shores.{Ranged};
 ghost use Rattle.potentials.specs.Repair.{Repairable};
-ghost use Rattle.order.specs.Ranked.{ranked};
+ghost use Rattle.order.specs.Ranked.{ranked, Plannable};
 ghost use Rattle.choicelists.specs.Listed.{listed};
 ghost use Rattle.columns.specs.Columns.{flagged, Ends, Columns, Neighbourhoods};
 ghost use Rattle.zerograph.specs.Low.{Low};
@@ -46,7 +46,7 @@ pub fn first_choice<'a>(
     around: [u64; 64],
 ) -> [bool; 256]
     requires { ⌜ Ends n m (now tails) (now heads) × Low (now costs) × Repair-start n m (now tails) (now heads) (now costs) levels chosen around ⌝ }
-    ensures { λ r. ⌜ ((h : Hall) → Columns h n m (now (tails .entry)) (now (heads .entry)) → Ranged h →
+    ensures { λ r. ⌜ ((h : Hall) → Columns h n m (now (tails .entry)) (now (heads .entry)) → Ranged h → Plannable h →
         ((i : ℕ) → 1 ≤ i → i ≤ m → at (now (costs .entry)) i ≡ ranked h i) →
         Repairable h (at (now (costs .entry))) (at levels) (flagged chosen) → Neighbourhoods h (flagged chosen) around →
         First h (listed h (flagged r))) ⌝ }

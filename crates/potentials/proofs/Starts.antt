@@ -21,15 +21,15 @@ cost-mono h c F G more =
     sum-le (count h) (λ k. cond (F (suc k)) (c (suc k)) 0) (λ k. cond (G (suc k)) (c (suc k)) 0)
     (λ k l. by-bool (F (suc k)) (λ t. rw (t, more (suc k) (omega arith) l t) (omega arith)) (λ t. rw t (omega arith)))
 
--- costs of at most e each
-pub cost-most : (h : Hall) (c : ℕ → ℕ) (F : ℕ → Bool) (e : ℕ) → ((i : ℕ) → 1 ≤ i → i ≤ count h → c i ≤ e) → cost h c F ≤ count h * e
+-- chosen rows that cost at most e each
+pub cost-most : (h : Hall) (c : ℕ → ℕ) (F : ℕ → Bool) (e : ℕ) → ((i : ℕ) → 1 ≤ i → i ≤ count h → F i ≡ true → c i ≤ e) → cost h c F ≤ count h * e
 unfolding cost
 cost-most h c F e most =
     omega (
       arith,
       sum-constant (count h) e,
       sum-le (count h) (λ k. cond (F (suc k)) (c (suc k)) 0) (λ k. e)
-          (λ k l. by-bool (F (suc k)) (λ t. rw t (most (suc k) (omega arith) l)) (λ t. rw t (omega arith))),
+          (λ k l. by-bool (F (suc k)) (λ t. rw t (most (suc k) (omega arith) l t)) (λ t. rw t (omega arith))),
     )
 
 module _ (h : Hall) (rg : Ranged h) (c p : ℕ → ℕ) (F : ℕ → Bool) where

@@ -1,21 +1,21 @@
--- THE STARRED HALLS, and halls with loops: each answers as expected. One computed test over each list, and a law that turns a passed test into the facts. Assumes nothing.
+-- THE STARRED HALLS, halls with loops and halls with fixed rows: each answers as expected. One computed test over each list, and a law that turns a passed test into the facts. Assumes nothing.
 use mathlib.Core.Path.{_≡_, refl}
-use mathlib.Core.Bool.{true}
+use mathlib.Core.Bool.{true, not}
 use mathlib.Core.List.{List}
 use Prim.Native.Nat.{ℕ}
 use lib.IntN.{ℤ}
-use borrow.Author.Tests.{eqb-true}
+use borrow.Author.Tests.{eqb-true, not-true}
 use Rattle.laws.specs.Lists.{all-in, all-of, Each, same-list}
 use Rattle.laws.proofs.Booleans.{and-l, and-r}
 use Rattle.laws.proofs.Lists.{each-in, all-of-at}
 use Rattle.junctions.specs.Sets.{holds, with-junction}
-use Rattle.hall.specs.Hall.{Hall, row-of, hall, row, count, enters, leaves, any-leaves, is-cut, ascends-from, is-choice, member, over-rows, spread, reached, first-short, missed, is-none, joins}
-use Rattle.hall.specs.File.{value, field, blocks, offset, long-of, pairs-good, rows-at, all-rows, hall-in, refusal, or-else, row-number, rows-refusal, all-numbers, connected, hall-refusal}
+use Rattle.hall.specs.Hall.{Hall, row-of, fixed-row, hall, row, count, enters, leaves, any-leaves, is-cut, ascends-from, none-fixed, is-choice, unfixed-from, unfixed, entering, meets-from, meets-all, member, over-rows, spread, reached, first-short, missed, is-none, joins}
+use Rattle.hall.specs.File.{value, field, blocks, offset, long-of, pairs-good, row-in, rows-at, all-rows, hall-in, refusal, or-else, row-number, rows-refusal, all-numbers, connected, openable, hall-refusal}
 use Rattle.hall.specs.Plan.{total, earlier, goes-before, Cut, cut, crosses-from, cross, none-cross, cuts-good, load, loads-fit, weight-sum, most-cuts, level-sum, difference, levels-from, levels}
 use Rattle.joining.specs.Promise.{all-bytes, accepted}
-use Rattle.starred.specs.Layout.{bytes-of, rows-bytes, blocks-bytes, file-of}
-use Rattle.starred.specs.Trying.{every-ascending, not-after, is-first, is-beside, same-row, same-hall, same-refusal, same-signed, is-some}
-use Rattle.starred.specs.Cases.{Starred-hold, Looped-hold, Expected, refused, opens, ties, misses, Case, Accepted, Planned-as, Ties, Misses, Answers, Says, accepted-tests, opens-tests, ties-tests, misses-tests, answered, case-tests, holds-of, drawn, junctions-of, printed-hall, printed-file, printed, square, starred, looped}
+use Rattle.starred.specs.Layout.{bytes-of, price-field, rows-bytes, blocks-bytes, file-of}
+use Rattle.starred.specs.Trying.{every-ascending, not-after, is-first, is-beside, same-mark, same-row, same-hall, same-refusal, same-signed, is-some}
+use Rattle.starred.specs.Cases.{Starred-hold, Looped-hold, Fixed-hold, Expected, refused, opens, ties, misses, unchosen, Case, Accepted, Planned-as, Ties, Misses, Answers, Says, accepted-tests, opens-tests, ties-tests, misses-tests, answered, case-tests, holds-of, drawn, junctions-of, printed-hall, printed-file, printed, square, half-open, starred, looped, fixed}
 use Rattle.starred.proofs.Same.{hall-same, refusal-same, levels-same, some-same}
 use Rattle.starred.proofs.Trying.{first-by-trying, beside-by-test}
 
@@ -68,6 +68,9 @@ answers-by-test bs (ties c d) e =
 answers-by-test bs (misses c s) e =
     let tests = all-of (misses-tests (hall-in bs) c s) in
     (accepted-by-tests bs (and-l (all-of (accepted-tests bs)) tests e), misses-by-tests (hall-in bs) c s (and-r (all-of (accepted-tests bs)) tests e))
+answers-by-test bs (unchosen c) e =
+    let test = not (is-choice (hall-in bs) c) in
+    (accepted-by-tests bs (and-l (all-of (accepted-tests bs)) test e), not-true (is-choice (hall-in bs) c) (and-r (all-of (accepted-tests bs)) test e))
 
 -- THE LAW: a case that passes its test says what it says
 pub says-by-test : (k : Case) → holds-of k ≡ true → Says k
@@ -83,16 +86,16 @@ says-by-test k e =
 pub cases-by-test : (ks : List Case) → all-in holds-of ks ≡ true → Each Says ks
 cases-by-test = each-in holds-of Says says-by-test
 
--- the test, computed over both lists
-cases-pass : (all-in holds-of starred ≡ true) × (all-in holds-of looped ≡ true)
+-- the test, computed over all three lists
+cases-pass : (all-in holds-of starred ≡ true) × (all-in holds-of looped ≡ true) × (all-in holds-of fixed ≡ true)
 unfolding all-in all-of same-list holds with-junction
-    row-of hall row count enters leaves any-leaves is-cut ascends-from is-choice member over-rows spread reached first-short missed is-none joins
-    value field blocks offset long-of pairs-good rows-at all-rows hall-in refusal or-else row-number rows-refusal all-numbers connected hall-refusal
+    row-of fixed-row hall row count enters leaves any-leaves is-cut ascends-from none-fixed is-choice unfixed-from unfixed entering meets-from meets-all member over-rows spread reached first-short missed is-none joins
+    value field blocks offset long-of pairs-good row-in rows-at all-rows hall-in refusal or-else row-number rows-refusal all-numbers connected openable hall-refusal
     total earlier goes-before cut crosses-from cross none-cross cuts-good load loads-fit weight-sum most-cuts level-sum difference levels-from levels
-    all-bytes accepted bytes-of rows-bytes blocks-bytes file-of
-    every-ascending not-after is-first is-beside same-row same-hall same-refusal same-signed is-some
-    accepted-tests opens-tests ties-tests misses-tests answered case-tests holds-of drawn junctions-of printed-hall printed-file printed square starred looped
-cases-pass = (refl, refl)
+    all-bytes accepted bytes-of price-field rows-bytes blocks-bytes file-of
+    every-ascending not-after is-first is-beside same-mark same-row same-hall same-refusal same-signed is-some
+    accepted-tests opens-tests ties-tests misses-tests answered case-tests holds-of drawn junctions-of printed-hall printed-file printed square half-open starred looped fixed
+cases-pass = (refl, refl, refl)
 
 pub starred-hold : Starred-hold
 unfolding Starred-hold
@@ -101,3 +104,7 @@ starred-hold = cases-by-test starred (cases-pass .0)
 pub looped-hold : Looped-hold
 unfolding Looped-hold
 looped-hold = cases-by-test looped (cases-pass .1)
+
+pub fixed-hold : Fixed-hold
+unfolding Fixed-hold
+fixed-hold = cases-by-test fixed (cases-pass .2)

@@ -1,6 +1,6 @@
 -- Rows, halls, refusals, signed numbers and lists that pass the test of sameness are equal. Assumes nothing.
 use mathlib.Core.Path.{_≡_, refl}
-use mathlib.Core.Bool.{true}
+use mathlib.Core.Bool.{Bool, true, false}
 use mathlib.Core.List.{List, [], _∷_}
 use mathlib.Core.Option.{Option, none, some}
 use Prim.Native.Nat.{ℕ}
@@ -10,21 +10,33 @@ use borrow.Author.Tests.{eqb-true}
 use Rattle.laws.specs.Lists.{same-list}
 use Rattle.laws.proofs.Booleans.{clash}
 use Rattle.laws.proofs.Lists.{all-of-at, same-list-true}
-use Rattle.hall.specs.Hall.{Row, Hall, row-of, hall}
+use Rattle.hall.specs.Hall.{Row, Hall, hall}
 use Rattle.hall.specs.File.{Refusal, refusal}
-use Rattle.starred.specs.Trying.{same-row, same-hall, same-refusal, same-signed, is-some}
+use Rattle.starred.specs.Trying.{same-mark, same-row, same-hall, same-refusal, same-signed, is-some}
 
 pub numbers-same : (c d : List ℕ) → same-list eqb c d ≡ true → c ≡ d
 numbers-same = same-list-true eqb eqb-true
 
+mark-same : (a b : Bool) → same-mark a b ≡ true → a ≡ b
+unfolding same-mark
+mark-same true true t = refl
+mark-same true false t = clash t refl
+mark-same false true t = clash t refl
+mark-same false false t = refl
+
+-- a row from its four parts
+row-with : (from to price : ℕ) (fixed : Bool) → Row
+row-with a b p m = record { from = a; to = b; price = p; fixed = m }
+
 row-same : (r s : Row) → same-row r s ≡ true → r ≡ s
-unfolding same-row row-of
+unfolding same-row row-with
 row-same r s t =
-    let same = all-of-at (eqb (r .from) (s .from) ∷ eqb (r .to) (s .to) ∷ eqb (r .price) (s .price) ∷ []) t in
+    let same = all-of-at (eqb (r .from) (s .from) ∷ eqb (r .to) (s .to) ∷ eqb (r .price) (s .price) ∷ same-mark (r .fixed) (s .fixed) ∷ []) t in
     let from = eqb-true (r .from) (s .from) (same 0) in
     let to = eqb-true (r .to) (s .to) (same 1) in
     let price = eqb-true (r .price) (s .price) (same 2) in
-    let built : row-of (r .from) (r .to) (r .price) ≡ row-of (s .from) (s .to) (s .price) = cc in
+    let fixed = mark-same (r .fixed) (s .fixed) (same 3) in
+    let built : row-with (r .from) (r .to) (r .price) (r .fixed) ≡ row-with (s .from) (s .to) (s .price) (s .fixed) = cc in
     built
 
 pub hall-same : (g h : Hall) → same-hall g h ≡ true → g ≡ h

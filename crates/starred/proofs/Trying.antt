@@ -1,18 +1,19 @@
 -- What the tests find by trying is so: a choice that passes is the first, and cuts that pass stand beside it. Assumes nothing.
 use mathlib.Core.Path.{_≡_, refl}
-use mathlib.Core.Bool.{Bool, true, _||_, not}
+use mathlib.Core.Bool.{Bool, true, _&&_, _||_, not}
 use mathlib.Core.List.{List, [], _∷_}
 use mathlib.Core.Logic.{⊎-elim}
 use Prim.Native.Nat.{ℕ, zero, suc, _+_}
 use native.Mathlib.Omega.{arith}
 use lib.Dec.{leb, eqb}
 use lib.ListN.{length}
-use borrow.Author.Tests.{leb-true, eqb-true}
+use borrow.Author.Tests.{leb-true, eqb-true, not-true}
 use Rattle.laws.specs.Lists.{same-list}
-use Rattle.laws.proofs.Booleans.{clash, and-l, and-r, or-cases}
+use Rattle.laws.proofs.Booleans.{clash, and-l, and-r, and-i, or-cases}
 use Rattle.laws.proofs.Lists.{all-of-at}
 use Rattle.hall.specs.Hall.{Hall, count, ascends-from, is-choice, joins}
 use Rattle.hall.specs.Plan.{First, Cut, Beside, total, goes-before, cuts-good, loads-fit, weight-sum, most-cuts}
+use Rattle.dicuts.proofs.Choices.{choice-ascends}
 use Rattle.order.specs.Least.{Passes, After}
 use Rattle.order.proofs.Least.{split-first, only-empty}
 use Rattle.starred.specs.Trying.{every-ascending, not-after, is-first, is-beside}
@@ -34,17 +35,18 @@ ascending-tried (suc k) a l p e t d asc =
 
 -- THE LAW OF TRYING: a choice that passes against every choice is the first
 pub first-by-trying : (h : Hall) (c : List ℕ) → is-first h c ≡ true → First h c
-unfolding is-first is-choice not-after
+unfolding is-first not-after
 first-by-trying h c t =
     let found = all-of-at (is-choice h c ∷ joins h c ∷ every-ascending (count h) 1 (not-after h c) ∷ []) t in
     record {
       choice = found 0;
       joining = found 1;
       before = λ d choice joining ne.
-          ⊎-elim (λ (s : not (joins h d) ≡ true). clash s (rw joining))
+          ⊎-elim (λ (s : not (is-choice h d && joins h d) ≡ true). clash (and-i (is-choice h d) (joins h d) choice joining) (not-true (is-choice h d && joins h d) s))
           (λ (s : (same-list eqb c d || goes-before h c d) ≡ true).
           ⊎-elim (λ (q : same-list eqb c d ≡ true). absurd (ne (numbers-same c d q))) (λ (q : goes-before h c d ≡ true). q) (or-cases (same-list eqb c d) (goes-before h c d) s))
-          (or-cases (not (joins h d)) (same-list eqb c d || goes-before h c d) (ascending-tried (count h) 1 (count h) (not-after h c) (omega arith) (found 2) d choice));
+          (or-cases (not (is-choice h d && joins h d)) (same-list eqb c d || goes-before h c d)
+          (ascending-tried (count h) 1 (count h) (not-after h c) (omega arith) (found 2) d (choice-ascends h d choice)));
     }
 
 pub beside-by-test : (h : Hall) (c : List ℕ) (ks : List Cut) → is-beside h c ks ≡ true → Beside h c ks

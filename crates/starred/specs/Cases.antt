@@ -1,6 +1,6 @@
--- The starred halls of document 01, and halls with loops: what is expected of each, what that says, and a test for it. Assumes nothing: these are definitions.
+-- The starred halls of document 01, halls with loops, and halls with fixed rows: what is expected of each, what that says, and a test for it. Assumes nothing: these are definitions.
 use mathlib.Core.Path.{_≡_}
-use mathlib.Core.Bool.{Bool, true, _&&_}
+use mathlib.Core.Bool.{Bool, true, false, _&&_, not}
 use mathlib.Core.List.{List, [], _∷_}
 use mathlib.Core.Option.{some}
 use Prim.Native.Nat.{ℕ}
@@ -8,7 +8,7 @@ use lib.Dec.{eqb}
 use lib.IntN.{ℤ, pos, negsuc}
 use Rattle.laws.specs.Lists.{all-of, Each, same-list}
 use Rattle.junctions.specs.Sets.{with-junction}
-use Rattle.hall.specs.Hall.{Hall, hall, row-of, is-choice, joins, missed}
+use Rattle.hall.specs.Hall.{Hall, hall, row-of, fixed-row, is-choice, joins, missed}
 use Rattle.hall.specs.File.{hall-in, hall-refusal, refusal}
 use Rattle.hall.specs.Plan.{First, Cut, cut, Beside, total, goes-before, levels}
 use Rattle.joining.specs.Promise.{all-bytes, accepted}
@@ -25,6 +25,8 @@ pub data Expected : Type 0 where
   ties : (choice later : List ℕ) → Expected
   -- a choice that misses a shore
   misses : (choice : List ℕ) → (shore : ℕ) → Expected
+  -- rows that are no choice
+  unchosen : (rows : List ℕ) → Expected
 
 -- A CASE: a file, the hall that it shows, and what is expected
 pub record Case : Type 0 where
@@ -64,6 +66,7 @@ Answers bs (refused n p) = hall-refusal bs ≡ refusal n p
 Answers bs (opens c t ks ls) = Accepted bs × Planned-as (hall-in bs) c t ks ls
 Answers bs (ties c d) = Accepted bs × Ties (hall-in bs) c d
 Answers bs (misses c s) = Accepted bs × Misses (hall-in bs) c s
+Answers bs (unchosen c) = Accepted bs × (is-choice (hall-in bs) c ≡ false)
 
 -- WHAT A CASE SAYS: the file is bytes, shows the hall, and answers as expected
 pub record Says (k : Case) : Type 0 where
@@ -93,6 +96,7 @@ answered bs (refused n p) = same-refusal (hall-refusal bs) (refusal n p)
 answered bs (opens c t ks ls) = all-of (accepted-tests bs) && all-of (opens-tests (hall-in bs) c t ks ls)
 answered bs (ties c d) = all-of (accepted-tests bs) && all-of (ties-tests (hall-in bs) c d)
 answered bs (misses c s) = all-of (accepted-tests bs) && all-of (misses-tests (hall-in bs) c s)
+answered bs (unchosen c) = all-of (accepted-tests bs) && not (is-choice (hall-in bs) c)
 
 -- the tests of a case
 unfoldable pub case-tests : Case → List Bool
@@ -128,6 +132,10 @@ printed e = record { file = printed-file; shows = printed-hall; expected = e }
 unfoldable pub square : Hall
 square = hall 4 (row-of 1 2 1 ∷ row-of 1 4 1 ∷ row-of 3 2 1 ∷ row-of 3 4 1 ∷ [])
 
+-- a fixed row beside an ordinary one
+unfoldable pub half-open : Hall
+half-open = hall 2 (fixed-row 1 2 ∷ row-of 1 2 7 ∷ [])
+
 -- THE STARRED HALLS, in the order of document 01; negsuc 6 is −7
 unfoldable pub starred : List Case
 starred =
@@ -162,6 +170,25 @@ looped =
     ∷ drawn (hall 2 (row-of 1 1 0 ∷ row-of 3 3 1000001 ∷ [])) (refused 6 2)
     ∷ []
 
+-- HALLS WITH FIXED ROWS, opened by no plan: read from FFFFFFFF hexadecimal, checked by 6, loaded without limit, refused with 15 where a directed cut has no other rows
+unfoldable pub fixed : List Case
+fixed =
+    drawn (hall 1 (fixed-row 1 1 ∷ [])) (opens [] 0 [] (pos 0 ∷ []))
+    ∷ drawn (hall 2 (fixed-row 1 2 ∷ fixed-row 2 1 ∷ [])) (opens [] 0 [] (pos 0 ∷ pos 0 ∷ []))
+    ∷ drawn (hall 2 (fixed-row 1 2 ∷ [])) (refused 15 0)
+    ∷ drawn (hall 3 (row-of 1 2 1 ∷ fixed-row 2 3 ∷ fixed-row 2 3 ∷ [])) (refused 15 0)
+    ∷ drawn (hall 3 (fixed-row 1 2 ∷ [])) (refused 9 0)
+    ∷ drawn half-open (opens (2 ∷ []) 7 (cut (junctions-of (2 ∷ [])) 7 ∷ []) (pos 0 ∷ pos 7 ∷ []))
+    ∷ drawn half-open (unchosen (1 ∷ []))
+    ∷ drawn half-open (unchosen (1 ∷ 2 ∷ []))
+    ∷ drawn half-open (misses [] (junctions-of (2 ∷ [])))
+    ∷ drawn (hall 3 (fixed-row 1 2 ∷ row-of 2 3 1 ∷ row-of 1 3 4 ∷ [])) (opens (3 ∷ []) 4 (cut (junctions-of (2 ∷ 3 ∷ [])) 4 ∷ []) (pos 0 ∷ pos 4 ∷ pos 4 ∷ []))
+    ∷ drawn (hall 2 (row-of 1 2 1000000 ∷ [])) (opens (1 ∷ []) 1000000 (cut (junctions-of (2 ∷ [])) 1000000 ∷ []) (pos 0 ∷ pos 1000000 ∷ []))
+    ∷ drawn (hall 2 (row-of 1 2 1000001 ∷ [])) (refused 8 1)
+    ∷ drawn (hall 2 (row-of 1 2 4294967294 ∷ [])) (refused 8 1)
+    ∷ drawn (hall 2 (fixed-row 1 2 ∷ fixed-row 3 1 ∷ [])) (refused 6 2)
+    ∷ []
+
 -- THE STARRED HALLS HOLD: each says what is expected of it
 unfoldable pub Starred-hold : Type 0
 Starred-hold = Each Says starred
@@ -169,3 +196,7 @@ Starred-hold = Each Says starred
 -- THE HALLS WITH LOOPS HOLD: so does each of these
 unfoldable pub Looped-hold : Type 0
 Looped-hold = Each Says looped
+
+-- THE HALLS WITH FIXED ROWS HOLD: and each of these
+unfoldable pub Fixed-hold : Type 0
+Fixed-hold = Each Says fixed

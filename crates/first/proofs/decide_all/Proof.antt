@@ -192,8 +192,8 @@ returns c =
     let s = at-start l in
     let a = s .args in
     let end : l .loop .k ≡ a .m = omega arith in
-    λ h cols rg is done near.
-    first-end h rg (a .n) (a .m) (a .tails .now) (a .heads .now) cols (a .costs .now) is (s .pre .0 .few) (at (l .loop .state .potential)) _
+    λ h cols rg able is done near.
+    first-end h rg (a .n) (a .m) (a .tails .now) (a .heads .now) cols (a .costs .now) is able (at (l .loop .state .potential)) _
     (rw end at (l .loop .inv .5 h cols rg is done near .deciding))
 
 pub decide-all-spec : {M : Type 1} → statement M

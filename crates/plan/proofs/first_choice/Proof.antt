@@ -33,9 +33,9 @@ decide-all-requires c κs =
 returns : tie.Need-returns
 returns c =
     let a = at-start (c .before) .args in let repaired = at-repair (c .before) .repair in
-    λ h cols rg costs can near.
+    λ h cols rg able costs can near.
     let end = repaired .ensures h cols rg can near in
-    c .decide-all .ensures h cols rg costs
+    c .decide-all .ensures h cols rg able costs
     (repaired-same h rg (at (a .costs .now)) (ranked h) (λ i l u. costs i l (omega (arith, cols .rows))) (at (repaired .result .potential)) (at (repaired .result .potential)) (λ j l u. refl)
     (flagged (repaired .result .chosen)) (flagged (repaired .result .chosen)) (λ i l u. refl) (end .repaired))
     (end .around)

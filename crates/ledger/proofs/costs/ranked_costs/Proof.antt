@@ -1,4 +1,4 @@
--- `ledger::costs::ranked_costs` gives the ranked costs of the first m rows. The invariant: k is at most m, and the first k costs are 257 times the price and 1, the others 0 (Padded). The measure is m - k. Assumes nothing.
+-- `ledger::costs::ranked_costs` gives the ranked costs of the first m rows. The invariant: k is at most m, and the first k costs are 257 times the charge and 1, the others 0 (Padded). The measure is m - k. Assumes nothing.
 use mathlib.Core.Path.{refl}
 use Prim.Native.Nat.{ℕ, _+_, _*_, _-_, _≤_}
 use native.Mathlib.Omega.{arith}
@@ -10,30 +10,27 @@ use Rattle.ledger.proofs.costs.ranked_costs.Statement.{statement}
 use Rattle.ledger.proofs.costs.ranked_costs.Tie as tie
 
 abbrev Inv-loop : tie.InvT-loop
-Inv-loop m prices costs₀ k₀ costs k = (k ≤ m) × Padded 256 (λ (i : ℕ). 257 * getD prices i 0 + 1) k costs
+Inv-loop m charges costs₀ k₀ costs k = (k ≤ m) × Padded 256 (λ (i : ℕ). 257 * getD charges i 0 + 1) k costs
 
 abbrev μ-loop : tie.MeasureT-loop
-μ-loop m prices costs₀ k₀ costs k = m - k
+μ-loop m charges costs₀ k₀ costs k = m - k
 
--- the loop's head, from where a turn has its row's price
+-- the loop's head, from where a turn has its row's charge
 abbrev at-loop : tie.After-costs Inv-loop μ-loop → tie.At-loop Inv-loop μ-loop
 at-loop c = c .before .before
 
--- that price
-small : (c : tie.After-costs Inv-loop μ-loop) → let l = at-loop c in getD (l .before .args .prices .now) (l .loop .k) 0 ≤ 1000000
+-- that charge
+small : (c : tie.After-costs Inv-loop μ-loop) → let l = at-loop c in getD (l .before .args .charges .now) (l .loop .k) 0 ≤ 256000001
 small c = let l = at-loop c in l .before .pre .1 (l .loop .k) (c .before .loop-test .taken)
 
 loop-holds : tie.Need-loop-holds Inv-loop μ-loop
-loop-holds c = let a = c .args in (omega arith, padded-none 256 (λ (i : ℕ). 257 * getD (a .prices .now) i 0 + 1))
+loop-holds c = let a = c .args in (omega arith, padded-none 256 (λ (i : ℕ). 257 * getD (a .charges .now) i 0 + 1))
 
 mul-costs : tie.Need-mul-costs Inv-loop μ-loop
 mul-costs c = search needs
 
 element-copy-out-costs : tie.Need-element-copy-out-costs Inv-loop μ-loop
 element-copy-out-costs c = search needs
-
-cast-costs : tie.Need-cast-costs Inv-loop μ-loop
-cast-costs c = record { fits = omega (arith, small c) }
 
 mul-costs-2 : tie.Need-mul-costs-2 Inv-loop μ-loop
 mul-costs-2 c = record { fits = omega (arith, small c) }
@@ -55,11 +52,11 @@ loop-less c = search needs
 
 loop-again : tie.Need-loop-again Inv-loop μ-loop
 loop-again c = let l = at-loop c in let a = l .before .args in
-    (omega arith, padded-more 256 (λ (i : ℕ). 257 * getD (a .prices .now) i 0 + 1) (l .loop .k) (l .loop .costs) _ (omega arith) refl (l .loop .inv .1))
+    (omega arith, padded-more 256 (λ (i : ℕ). 257 * getD (a .charges .now) i 0 + 1) (l .loop .k) (l .loop .costs) _ (omega arith) refl (l .loop .inv .1))
 
 returns : tie.Need-returns Inv-loop μ-loop
 returns c = let l = c .before in let a = l .before .args in
-    padded-all 256 (λ (i : ℕ). 257 * getD (a .prices .now) i 0 + 1) (l .loop .k) (l .loop .costs) (l .loop .inv .1) (a .m) (l .loop .inv .0) (c .loop-test .left)
+    padded-all 256 (λ (i : ℕ). 257 * getD (a .charges .now) i 0 + 1) (l .loop .k) (l .loop .costs) (l .loop .inv .1) (a .m) (l .loop .inv .0) (c .loop-test .left)
 
 pub ranked-costs-spec : {M : Type 1} → statement M
 ranked-costs-spec =
@@ -70,7 +67,6 @@ ranked-costs-spec =
     loop-holds
     mul-costs
     element-copy-out-costs
-    cast-costs
     mul-costs-2
     add-costs
     mul-costs-3
