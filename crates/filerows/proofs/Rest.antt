@@ -10,14 +10,14 @@ use lib.Seq.{drop-cons}
 use borrow.Author.Tests.{ltb-true, ltb-false}
 use Rattle.laws.proofs.Booleans.{by-bool}
 use Rattle.hall.specs.Hall.{Row, row-of}
-use Rattle.hall.specs.File.{field, offset, long-of, rows-at, all-rows}
+use Rattle.hall.specs.File.{field, offset, long-of, row-in, rows-at, all-rows}
 use Rattle.filerows.specs.declared.places.Place.{Place}
 use Rattle.filerows.specs.Places.{Table, Stands, rest-at}
 use Rattle.filerows.proofs.Pairs.{blocks-more, blocks-end, pair-at}
 
 -- the row in the eight bytes from place a on
-abbrev pub row-in : List ℕ → (a : ℕ) → Row
-row-in bs a = row-of (field a 2 bs) (field (a + 2) 2 bs) (field (a + 4) 4 bs)
+abbrev pub row-from : List ℕ → (a : ℕ) → Row
+row-from bs a = row-in (field a 2 bs) (field (a + 2) 2 bs) (field (a + 4) 4 bs)
 
 module _ (bs : List ℕ) (m : ℕ) (p : Place) where
   used-up : p .left ≤ 0 → rest-at bs m p ≡ all-rows (m - p .block) (p .block) bs
@@ -44,7 +44,7 @@ module _ (bs : List ℕ) (m : ℕ) (p : Place) where
 
 -- the row in front of a place whose own block has it, and the place after it
 pub row-after : (bs : List ℕ) (m : ℕ) (p : Place) → 0 < p .left
-    → rest-at bs m p ≡ row-in bs (p .at) ∷ rest-at bs m (record { at = p .at + 8; left = p .left - 1; block = p .block })
+    → rest-at bs m p ≡ row-from bs (p .at) ∷ rest-at bs m (record { at = p .at + 8; left = p .left - 1; block = p .block })
 unfolding rest-at rows-at
 row-after bs m p h =
     let e : p .left ≡ suc (p .left - 1) = omega arith in

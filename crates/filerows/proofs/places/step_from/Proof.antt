@@ -27,10 +27,10 @@ sub-t6 : tie.Need-sub-t6
 sub-t6 c = search needs
 
 returns : tie.Need-returns
-returns c = let at-lane = c .before .before in let here = at-settle at-lane .settle in let a = at-start (at-settle at-lane) .args in let lane = at-lane .lane-at .ensures in
+returns c = let at-lane = c .before .before in let here = at-settle at-lane .settle in let a = at-start (at-settle at-lane) .args in
     record {
       stands = record { block = here .ensures .stands .block; fits = omega (arith, here .ensures .stands .fits, here .ensures .some) };
-      rest = rw (lane .0, lane .1, lane .2) (sym (here .ensures .same) ∙ row-after (a .file .now) (blocks (a .file .now)) (here .result) (here .ensures .some));
+      rest = rw (at-lane .lane-at .ensures) (sym (here .ensures .same) ∙ row-after (a .file .now) (blocks (a .file .now)) (here .result) (here .ensures .some));
     }
 
 pub step-from-spec : {M : Type 1} → statement M
