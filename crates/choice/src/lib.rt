@@ -1,10 +1,11 @@
-// Choices of rows: whether a list of numbers is one, its rows as flags, and which junctions do not reach all.
+// Choices of rows: whether a list of numbers is one, its rows as flags, flags of rows, and which junctions do not reach all.
 ghost use mathlib.Core.Path.{_≡_};
-ghost use mathlib.Core.Bool.{true, false};
+ghost use mathlib.Core.Bool.{true, false, not};
 ghost use mathlib.Core.List.{List};
 ghost use Prim.Native.Nat.{ℕ, suc, _-_, _^_, _≤_, _<_};
 ghost use lib.ListN.{length, getD};
-ghost use Rattle.laws.specs.Lists.{at};
+ghost use Rattle.laws.specs.Finite.{any-below};
+ghost use Rattle.laws.specs.Lists.{all-in, at};
 ghost use Rattle.junctions.specs.Sets.{full};
 ghost use Rattle.digraph.specs.Closure.{closure};
 ghost use Rattle.hall.specs.Hall.{Hall, ascends-from, member, missed};
@@ -47,6 +48,48 @@ pub fn flags(numbers: &[u32]) -> [bool; 256]
         k += 1;
     }
     chosen
+}
+
+// No listed row is flagged.
+pub fn none_flagged(numbers: &[u32], flags: &[bool; 256]) -> bool
+    requires { ⌜ ascends-from 1 256 (now numbers) ≡ true ⌝ }
+    ensures { λ r. ⌜ r ≡ all-in (λ (i : ℕ). not (flagged (now (flags .entry)) i)) (now (numbers .entry)) ⌝ }
+{
+    let mut k: usize = 0;
+    while k < numbers.len() {
+        let i = numbers[k] as usize;
+        if flags[i - 1] {
+            return false;
+        }
+        k += 1;
+    }
+    true
+}
+
+// Some row is flagged.
+pub fn any_flagged(flags: &[bool; 256]) -> bool
+    ensures { λ r. ⌜ r ≡ any-below 256 (λ (k : ℕ). getD (now (flags .entry)) k false) ⌝ }
+{
+    let mut any = false;
+    let mut k: usize = 0;
+    while k < 256 {
+        any = any | flags[k];
+        k += 1;
+    }
+    any
+}
+
+// The rows that are not flagged, flagged.
+pub fn unflagged(flags: &[bool; 256]) -> [bool; 256]
+    ensures { λ r. ⌜ (length r ≡ 256) × ((k : ℕ) → k < 256 → getD r k false ≡ not (getD (now (flags .entry)) k false)) ⌝ }
+{
+    let mut others = [false; 256];
+    let mut k: usize = 0;
+    while k < 256 {
+        others[k] = !flags[k];
+        k += 1;
+    }
+    others
 }
 
 // What a search from the start has reached when it first holds a junction of the goal, or when it ends.
