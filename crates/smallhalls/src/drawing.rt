@@ -57,7 +57,8 @@ fn upward(ends: Ends) -> Ends {
     }
 }
 
-fn with_row(hall: Small, ends: Ends, price: u64) -> Small
+// The hall with one more row; a fixed one has no price.
+fn with_row(hall: Small, ends: Ends, price: u64, fixed: bool) -> Small
     requires { ⌜ (hall .count < 10) × (price < 256) ⌝ }
     ensures { λ r. ⌜ (r .n ≡ hall .n) × (r .count ≡ hall .count + 1) ⌝ }
 {
@@ -65,24 +66,27 @@ fn with_row(hall: Small, ends: Ends, price: u64) -> Small
     let at = next.count;
     next.from[at] = ends.from;
     next.to[at] = ends.to;
-    next.price[at] = price as u8;
+    next.price[at] = if fixed { 0 } else { price as u8 };
+    next.fixed[at] = fixed;
     next.count = at + 1;
     next
 }
 
-// The hall of a number: its digits, in the base of how many rows can be drawn, are the rows.
+// The hall of a number: its digits, in the base of how many rows can be drawn, are the rows. Each row has a price below the bound or is fixed.
 pub fn of_number(n: usize, count: usize, prices: u64, number: u64) -> Numbered
-    requires { ⌜ (1 ≤ n) × (n ≤ 6) × (count ≤ 10) × (1 ≤ prices) × (prices ≤ 256) ⌝ }
+    requires { ⌜ (1 ≤ n) × (n ≤ 6) × (count ≤ 10) × (1 ≤ prices) × (prices ≤ 255) ⌝ }
     ensures { λ r. ⌜ (r .hall .n ≤ 6) × (r .hall .count ≤ 10) ⌝ }
 {
     let junctions = n as u64;
+    let digits = prices + 1;
     let mut hall = without_rows(n);
     let mut left = number;
     let mut i: usize = 0;
     while i < count {
         let rest = left / junctions / junctions;
-        hall = with_row(hall, ends_of(junctions, left), below(rest, prices));
-        left = rest / prices;
+        let digit = below(rest, digits);
+        hall = with_row(hall, ends_of(junctions, left), digit, digit == prices);
+        left = rest / digits;
         i += 1;
     }
     Numbered { hall, left }
@@ -98,6 +102,15 @@ fn price_bound(x: u64) -> u64
         2 => 3,
         3 => 6,
         _ => 256,
+    }
+}
+
+// How many rows in eight are fixed: none, one or half of them.
+fn fixed_share(x: u64) -> u64 {
+    match x % 3 {
+        0 => 0,
+        1 => 1,
+        _ => 4,
     }
 }
 
@@ -123,6 +136,7 @@ pub fn random(start: u64) -> Drawn
     let n = 1 + below(kind / 16, 6);
     let count = n - 1 + below(kind / 128, 12 - n);
     let prices = price_bound(kind / 4096);
+    let share = fixed_share(kind / 1_048_576);
     let mut hall = without_rows(n as usize);
     let mut seed = kind;
     let mut i: u64 = 0;
@@ -132,6 +146,7 @@ pub fn random(start: u64) -> Drawn
             hall,
             random_ends(n, kind, seed),
             below(seed / 65_536, prices),
+            (seed / 16_777_216) % 8 < share,
         );
         i += 1;
     }

@@ -24,15 +24,22 @@ fn headed(n: usize, rows: usize) -> [u8; 92]
     file
 }
 
-// The file with row i + 1.
-fn with_row(file: [u8; 92], i: usize, from: u8, to: u8, price: u8) -> [u8; 92]
+// The file with row i + 1; a fixed one has FFFFFFFF hexadecimal in place of a price.
+fn with_row(file: [u8; 92], i: usize, from: u8, to: u8, price: u8, fixed: bool) -> [u8; 92]
     requires { ⌜ i < 10 ⌝ }
 {
     let mut next = file;
     let at = 12 + 8 * i;
     next[at] = from;
     next[at + 2] = to;
-    next[at + 4] = price;
+    if fixed {
+        next[at + 4] = 255;
+        next[at + 5] = 255;
+        next[at + 6] = 255;
+        next[at + 7] = 255;
+    } else {
+        next[at + 4] = price;
+    }
     next
 }
 
@@ -43,7 +50,14 @@ pub fn bytes_of(hall: Small) -> [u8; 92]
     let mut file = headed(hall.n, count);
     let mut i: usize = 0;
     while i < count {
-        let next = with_row(file, i, hall.from[i], hall.to[i], hall.price[i]);
+        let next = with_row(
+            file,
+            i,
+            hall.from[i],
+            hall.to[i],
+            hall.price[i],
+            hall.fixed[i],
+        );
         file = next;
         i += 1;
     }

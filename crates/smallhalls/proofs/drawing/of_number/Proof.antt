@@ -6,10 +6,13 @@ use Rattle.smallhalls.proofs.drawing.of_number.Statement.{statement}
 use Rattle.smallhalls.proofs.drawing.of_number.Tie as tie
 
 abbrev Inv-loop : tie.InvT-loop
-Inv-loop n count prices number junctions hall₀ left₀ i₀ hall left i = (i ≤ count) × (hall .n ≤ 6) × (hall .count ≡ i)
+Inv-loop n count prices number junctions digits hall₀ left₀ i₀ hall left i = (i ≤ count) × (hall .n ≤ 6) × (hall .count ≡ i)
 
 abbrev μ-loop : tie.MeasureT-loop
-μ-loop n count prices number junctions hall₀ left₀ i₀ hall left i = count - i
+μ-loop n count prices number junctions digits hall₀ left₀ i₀ hall left i = count - i
+
+add-digits : tie.Need-add-digits Inv-loop μ-loop
+add-digits c = search needs
 
 without-rows-requires : tie.Need-without-rows-requires Inv-loop μ-loop
 without-rows-requires c κs = search needs
@@ -23,11 +26,11 @@ div-rest c = search needs
 div-rest-2 : tie.Need-div-rest-2 Inv-loop μ-loop
 div-rest-2 c = search needs
 
-ends-of-requires : tie.Need-ends-of-requires Inv-loop μ-loop
-ends-of-requires c κs = search needs
-
 below-requires : tie.Need-below-requires Inv-loop μ-loop
 below-requires c κs = search needs
+
+ends-of-requires : tie.Need-ends-of-requires Inv-loop μ-loop
+ends-of-requires c κs = search needs
 
 with-row-requires : tie.Need-with-row-requires Inv-loop μ-loop
 with-row-requires c κs = search needs
@@ -53,12 +56,13 @@ of-number-spec =
     (tie.spec
     Inv-loop
     μ-loop
+    add-digits
     without-rows-requires
     loop-holds
     div-rest
     div-rest-2
-    ends-of-requires
     below-requires
+    ends-of-requires
     with-row-requires
     div-left
     add-i

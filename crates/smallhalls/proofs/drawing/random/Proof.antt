@@ -6,10 +6,10 @@ use Rattle.smallhalls.proofs.drawing.random.Statement.{statement}
 use Rattle.smallhalls.proofs.drawing.random.Tie as tie
 
 abbrev Inv-loop : tie.InvT-loop
-Inv-loop start kind n count prices hall₀ seed₀ i₀ hall seed i = (i ≤ count) × (hall .n ≤ 6) × (hall .count ≡ i)
+Inv-loop start kind n count prices share hall₀ seed₀ i₀ hall seed i = (i ≤ count) × (hall .n ≤ 6) × (hall .count ≡ i)
 
 abbrev μ-loop : tie.MeasureT-loop
-μ-loop start kind n count prices hall₀ seed₀ i₀ hall seed i = count - i
+μ-loop start kind n count prices share hall₀ seed₀ i₀ hall seed i = count - i
 
 next-of-requires : tie.Need-next-of-requires Inv-loop μ-loop
 next-of-requires c κs = search needs
@@ -34,6 +34,9 @@ add-count c = search needs
 
 price-bound-requires : tie.Need-price-bound-requires Inv-loop μ-loop
 price-bound-requires c κs = search needs
+
+fixed-share-requires : tie.Need-fixed-share-requires Inv-loop μ-loop
+fixed-share-requires c κs = search needs
 
 without-rows-requires : tie.Need-without-rows-requires Inv-loop μ-loop
 without-rows-requires c κs = search needs
@@ -79,6 +82,7 @@ random-spec =
     below-requires-2
     add-count
     price-bound-requires
+    fixed-share-requires
     without-rows-requires
     loop-holds
     next-of-requires-2

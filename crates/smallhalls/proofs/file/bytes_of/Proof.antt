@@ -25,6 +25,9 @@ element-copy-out-with-row-2 c = search needs
 element-copy-out-with-row-3 : tie.Need-element-copy-out-with-row-3 Inv-loop μ-loop
 element-copy-out-with-row-3 c = search needs
 
+element-copy-out-with-row-4 : tie.Need-element-copy-out-with-row-4 Inv-loop μ-loop
+element-copy-out-with-row-4 c = search needs
+
 with-row-requires : tie.Need-with-row-requires Inv-loop μ-loop
 with-row-requires c κs = search needs
 
@@ -51,6 +54,7 @@ bytes-of-spec =
     element-copy-out-with-row
     element-copy-out-with-row-2
     element-copy-out-with-row-3
+    element-copy-out-with-row-4
     with-row-requires
     add-i
     loop-less
