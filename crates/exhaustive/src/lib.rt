@@ -42,13 +42,13 @@ fn cuts_of(hall: Small) -> Cuts
     cuts
 }
 
-// Whether a choice has a row of every cut.
-fn joins(cuts: &[u64; 64], count: usize, choice: u64) -> bool
+// Whether a set of rows has a row of every cut.
+fn joins(cuts: &[u64; 64], count: usize, rows: u64) -> bool
     requires { ⌜ count ≤ 64 ⌝ }
 {
     let mut k: usize = 0;
     while k < count {
-        if cuts[k] & choice == 0 {
+        if cuts[k] & rows == 0 {
             return false;
         }
         k += 1;
@@ -56,12 +56,30 @@ fn joins(cuts: &[u64; 64], count: usize, choice: u64) -> bool
     true
 }
 
-// Whether some choice joins, which is whether all rows together do.
-pub fn some_joins(hall: Small) -> bool
+// Whether every directed cut has a row.
+pub fn all_join(hall: Small) -> bool
     requires { ⌜ (hall .n ≤ 6) × (hall .count ≤ 10) ⌝ }
 {
     let cuts = cuts_of(hall);
     joins(&cuts.rows, cuts.count, u64::MAX)
+}
+
+// Whether every directed cut has an unfixed row, which is whether some choice joins.
+pub fn unfixed_join(hall: Small) -> bool
+    requires { ⌜ (hall .n ≤ 6) × (hall .count ≤ 10) ⌝ }
+{
+    let cuts = cuts_of(hall);
+    joins(&cuts.rows, cuts.count, sets::unfixed(hall))
+}
+
+// Whether a set of rows has no fixed row, so that it is a choice, and joins.
+fn is_joining(cuts: &[u64; 64], count: usize, unfixed: u64, rows: u64) -> bool
+    requires { ⌜ count ≤ 64 ⌝ }
+{
+    if rows & unfixed != rows {
+        return false;
+    }
+    joins(cuts, count, rows)
 }
 
 // The price where it counts, else 0.
@@ -108,23 +126,24 @@ fn beats(total: u32, choice: u64, other_total: u32, other: u64) -> bool {
     precedes(choice, other)
 }
 
-// Whether the choice joins at this total, and no other that joins goes before it.
-pub fn is_first(hall: Small, choice: u64, total: u32) -> bool
+// Whether the rows are a choice that joins at this total, and no other that joins goes before it.
+pub fn is_first(hall: Small, rows: u64, total: u32) -> bool
     requires { ⌜ (hall .n ≤ 6) × (hall .count ≤ 10) ⌝ }
 {
     let cuts = cuts_of(hall);
     let count = cuts.count;
-    if !joins(&cuts.rows, count, choice) {
+    let unfixed = sets::unfixed(hall);
+    if !is_joining(&cuts.rows, count, unfixed, rows) {
         return false;
     }
-    if total_of(hall, choice) != total {
+    if total_of(hall, rows) != total {
         return false;
     }
-    let choices = sets::subsets(hall.count);
+    let subsets = sets::subsets(hall.count);
     let mut other: u64 = 0;
-    while other < choices {
-        if joins(&cuts.rows, count, other) {
-            if beats(total_of(hall, other), other, total, choice) {
+    while other < subsets {
+        if is_joining(&cuts.rows, count, unfixed, other) {
+            if beats(total_of(hall, other), other, total, rows) {
                 return false;
             }
         }

@@ -1,4 +1,4 @@
-// Sets of junctions and of rows as numbers, junction j and row j at bit j - 1; and the rows that enter a set.
+// Sets of junctions and of rows as numbers, junction j and row j at bit j - 1; the unfixed rows, and the rows that enter a set.
 ghost use Prim.Native.Nat.{_≤_, _<_};
 use smallhalls::Small;
 
@@ -43,6 +43,22 @@ pub fn has(set: u64, j: u8) -> bool {
 
 pub fn enters(set: u64, from: u8, to: u8) -> bool {
     has(set, to) & !has(set, from)
+}
+
+// The rows that may be opened: all but the fixed ones.
+pub fn unfixed(hall: Small) -> u64
+    requires { ⌜ hall .count ≤ 10 ⌝ }
+{
+    let count = hall.count;
+    let mut rows: u64 = 0;
+    let mut i: usize = 0;
+    while i < count {
+        if !hall.fixed[i] {
+            rows = rows | (1 << i);
+        }
+        i += 1;
+    }
+    rows
 }
 
 pub fn cut_of(hall: Small, set: u64) -> Cut

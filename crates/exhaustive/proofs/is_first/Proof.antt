@@ -1,20 +1,23 @@
--- `exhaustive::is_first` ends: it tries each of the at most 1024 choices once. The invariant: the choice tried is at most their number. The measure is the number of choices left. Assumes nothing.
+-- `exhaustive::is_first` ends: it tries each of the at most 1024 sets of rows once. The invariant: the set tried is at most their number. The measure is the number of sets left. Assumes nothing.
 use Prim.Native.Nat.{_≤_, _-_}
 use borrow.Author.Needs.{needs}
 use Rattle.exhaustive.proofs.is_first.Statement.{statement}
 use Rattle.exhaustive.proofs.is_first.Tie as tie
 
 abbrev Inv-loop : tie.InvT-loop
-Inv-loop hall choice total cuts count choices other₀ other = other ≤ choices
+Inv-loop hall rows total cuts count unfixed subsets other₀ other = other ≤ subsets
 
 abbrev μ-loop : tie.MeasureT-loop
-μ-loop hall choice total cuts count choices other₀ other = choices - other
+μ-loop hall rows total cuts count unfixed subsets other₀ other = subsets - other
 
 cuts-of-requires : tie.Need-cuts-of-requires Inv-loop μ-loop
 cuts-of-requires c κs = search needs
 
-joins-requires : tie.Need-joins-requires Inv-loop μ-loop
-joins-requires c κs = search needs
+unfixed-requires : tie.Need-unfixed-requires Inv-loop μ-loop
+unfixed-requires c κs = search needs
+
+is-joining-requires : tie.Need-is-joining-requires Inv-loop μ-loop
+is-joining-requires c κs = search needs
 
 returns : tie.Need-returns Inv-loop μ-loop
 returns c = search needs
@@ -31,8 +34,8 @@ subsets-requires c κs = search needs
 loop-holds : tie.Need-loop-holds Inv-loop μ-loop
 loop-holds c = search needs
 
-joins-requires-2 : tie.Need-joins-requires-2 Inv-loop μ-loop
-joins-requires-2 c κs = search needs
+is-joining-requires-2 : tie.Need-is-joining-requires-2 Inv-loop μ-loop
+is-joining-requires-2 c κs = search needs
 
 total-of-requires-2 : tie.Need-total-of-requires-2 Inv-loop μ-loop
 total-of-requires-2 c κs = search needs
@@ -62,13 +65,14 @@ is-first-spec =
     Inv-loop
     μ-loop
     cuts-of-requires
-    joins-requires
+    unfixed-requires
+    is-joining-requires
     returns
     total-of-requires
     returns-2
     subsets-requires
     loop-holds
-    joins-requires-2
+    is-joining-requires-2
     total-of-requires-2
     beats-requires
     returns-3

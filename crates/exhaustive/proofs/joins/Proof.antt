@@ -5,10 +5,10 @@ use Rattle.exhaustive.proofs.joins.Statement.{statement}
 use Rattle.exhaustive.proofs.joins.Tie as tie
 
 abbrev Inv-loop : tie.InvT-loop
-Inv-loop cuts count choice k₀ k = k ≤ count
+Inv-loop cuts count rows k₀ k = k ≤ count
 
 abbrev μ-loop : tie.MeasureT-loop
-μ-loop cuts count choice k₀ k = count - k
+μ-loop cuts count rows k₀ k = count - k
 
 loop-holds : tie.Need-loop-holds Inv-loop μ-loop
 loop-holds c = search needs
