@@ -100,11 +100,12 @@ fn load<'a>(shores: &'a [u64; 126], weights: &'a [u32; 126], cuts: usize, from: 
     sum
 }
 
-fn price_of(price: u8) -> u64 {
-    price as u64
+// Whether a row may carry the load: a fixed one any, another one up to its price.
+fn carries(price: u8, fixed: bool, load: u64) -> bool {
+    fixed | (load <= price as u64)
 }
 
-// Whether no row's load is over its price.
+// Whether every row may carry its load.
 pub fn loads_fit<'a>(
     hall: Small,
     shores: &'a [u64; 126],
@@ -116,8 +117,8 @@ pub fn loads_fit<'a>(
     let count = hall.count;
     let mut i: usize = 0;
     while i < count {
-        let carried = load(shores, weights, cuts, hall.from[i], hall.to[i]);
-        if price_of(hall.price[i]) < carried {
+        let load = load(shores, weights, cuts, hall.from[i], hall.to[i]);
+        if !carries(hall.price[i], hall.fixed[i], load) {
             return false;
         }
         i += 1;

@@ -22,11 +22,14 @@ element-copy-out-load-2 c = search needs
 load-requires : tie.Need-load-requires Inv-loop μ-loop
 load-requires c κs = search needs
 
-element-copy-out-price-of : tie.Need-element-copy-out-price-of Inv-loop μ-loop
-element-copy-out-price-of c = search needs
+element-copy-out-carries : tie.Need-element-copy-out-carries Inv-loop μ-loop
+element-copy-out-carries c = search needs
 
-price-of-requires : tie.Need-price-of-requires Inv-loop μ-loop
-price-of-requires c κs = search needs
+element-copy-out-carries-2 : tie.Need-element-copy-out-carries-2 Inv-loop μ-loop
+element-copy-out-carries-2 c = search needs
+
+carries-requires : tie.Need-carries-requires Inv-loop μ-loop
+carries-requires c κs = search needs
 
 returns : tie.Need-returns Inv-loop μ-loop
 returns c = search needs
@@ -53,8 +56,9 @@ loads-fit-spec =
     element-copy-out-load
     element-copy-out-load-2
     load-requires
-    element-copy-out-price-of
-    price-of-requires
+    element-copy-out-carries
+    element-copy-out-carries-2
+    carries-requires
     returns
     add-i
     loop-less
