@@ -9,6 +9,7 @@ use tries::Tried;
 pub enum Outcome {
     Same,
     Unjoined,
+    Fixed,
     Different,
 }
 
@@ -38,6 +39,13 @@ fn is_right(hall: Small, tried: Tried) -> bool
     judge::is_right(hall, plan) & tries::kept_after(lists, chosen, cuts, levelled)
 }
 
+// Whether every directed cut has a row, and some one fixed rows only.
+fn has_fixed_cut(hall: Small) -> bool
+    requires { ⌜ (hall .n ≤ 6) × (hall .count ≤ 10) ⌝ }
+{
+    exhaustive::all_join(hall) & !exhaustive::unfixed_join(hall)
+}
+
 // A reply beside the choices of its hall.
 fn judged(hall: Small, tried: Tried) -> Outcome
     requires { ⌜ (hall .n ≤ 6) × (hall .count ≤ 10) ⌝ }
@@ -52,8 +60,13 @@ fn judged(hall: Small, tried: Tried) -> Outcome
             }
         }
         Kind::Unjoined => {
-            if !exhaustive::some_joins(hall) & tries::kept_after(lists, 0, 0, 0) {
+            if !exhaustive::all_join(hall) & tries::kept_after(lists, 0, 0, 0) {
                 return Outcome::Unjoined;
+            }
+        }
+        Kind::FixedCut => {
+            if has_fixed_cut(hall) & tries::kept_after(lists, 0, 0, 0) {
+                return Outcome::Fixed;
             }
         }
         _ => {}

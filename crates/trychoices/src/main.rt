@@ -8,16 +8,18 @@ use smallhalls::Small;
 use smallhalls::drawing;
 use std::num::wrapping_add_u64;
 
-// Halls whose plan is the first choice, halls refused that no choice joins, and halls where planner and search differ.
+// Halls whose plan is the first choice, halls rightly refused as unjoined or for a cut of fixed rows, and halls where planner and search differ.
 struct Tally {
     same: u64,
     unjoined: u64,
+    fixed: u64,
     different: u64,
 }
 
 const NONE: Tally = Tally {
     same: 0,
     unjoined: 0,
+    fixed: 0,
     different: 0,
 };
 
@@ -29,6 +31,7 @@ fn counted(tally: Tally, hall: Small) -> Tally
     match outcome {
         Outcome::Same => next.same = wrapping_add_u64(next.same, 1),
         Outcome::Unjoined => next.unjoined = wrapping_add_u64(next.unjoined, 1),
+        Outcome::Fixed => next.fixed = wrapping_add_u64(next.fixed, 1),
         Outcome::Different => next.different = wrapping_add_u64(next.different, 1),
     }
     next
@@ -42,13 +45,14 @@ fn print_item(word: &[u8], number: u64) {
 fn print_tally(tally: Tally) {
     print_item(b" SAME ", tally.same);
     print_item(b" UNJOINED ", tally.unjoined);
+    print_item(b" FIXED ", tally.fixed);
     print_item(b" DIFFERENT ", tally.different);
     io::write_all(STDOUT_FILENO, b"\n");
 }
 
-// Every hall of n junctions and a number of rows, of prices below a bound.
+// Every hall of n junctions and a number of rows, fixed or of prices below a bound.
 fn of_size(tally: Tally, n: usize, rows: usize, prices: u64) -> Tally
-    requires { ⌜ (1 ≤ n) × (n ≤ 6) × (rows ≤ 10) × (1 ≤ prices) × (prices ≤ 256) ⌝ }
+    requires { ⌜ (1 ≤ n) × (n ≤ 6) × (rows ≤ 10) × (1 ≤ prices) × (prices ≤ 255) ⌝ }
 {
     let mut next = tally;
     let mut number: u64 = 0;
@@ -65,7 +69,7 @@ fn of_size(tally: Tally, n: usize, rows: usize, prices: u64) -> Tally
 }
 
 fn try_all(n: usize, rows: usize, prices: u64)
-    requires { ⌜ (1 ≤ n) × (n ≤ 6) × (rows ≤ 10) × (1 ≤ prices) × (prices ≤ 256) ⌝ }
+    requires { ⌜ (1 ≤ n) × (n ≤ 6) × (rows ≤ 10) × (1 ≤ prices) × (prices ≤ 255) ⌝ }
 {
     let mut tally = counted(NONE, smallhalls::without_rows(n));
     let mut count: usize = 1;
@@ -76,6 +80,7 @@ fn try_all(n: usize, rows: usize, prices: u64)
     print_item(b"EVERY JUNCTIONS ", n as u64);
     print_item(b" ROWS 0 TO ", rows as u64);
     print_item(b" PRICES 0 TO ", prices - 1);
+    io::write_all(STDOUT_FILENO, b" OR FIXED");
     print_tally(tally);
 }
 
@@ -98,7 +103,7 @@ fn main() {
     try_all(1, 5, 3);
     try_all(2, 5, 3);
     try_all(3, 4, 3);
-    try_all(3, 5, 2);
-    try_all(4, 4, 3);
-    try_random(100_000, 1);
+    try_all(3, 5, 1);
+    try_all(4, 4, 2);
+    try_random(200_000, 1);
 }

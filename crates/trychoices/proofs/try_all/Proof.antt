@@ -5,10 +5,10 @@ use Rattle.trychoices.proofs.try_all.Statement.{statement}
 use Rattle.trychoices.proofs.try_all.Tie as tie
 
 abbrev Inv-loop : tie.InvT-loop
-Inv-loop n rows prices tally₀ count₀ t6 t7 t8 tally count = (1 ≤ count) × (count ≤ rows + 1)
+Inv-loop n rows prices tally₀ count₀ t6 t7 t8 t9 tally count = (1 ≤ count) × (count ≤ rows + 1)
 
 abbrev μ-loop : tie.MeasureT-loop
-μ-loop n rows prices tally₀ count₀ t6 t7 t8 tally count = rows + 1 - count
+μ-loop n rows prices tally₀ count₀ t6 t7 t8 t9 tally count = rows + 1 - count
 
 without-rows-requires : tie.Need-without-rows-requires Inv-loop μ-loop
 without-rows-requires c κs = search needs
@@ -52,6 +52,12 @@ sub-print-item c = search needs
 print-item-requires-3 : tie.Need-print-item-requires-3 Inv-loop μ-loop
 print-item-requires-3 c κs = search needs
 
+slice-aggregate-write-all : tie.Need-slice-aggregate-write-all Inv-loop μ-loop
+slice-aggregate-write-all c = search needs
+
+write-all-requires : tie.Need-write-all-requires Inv-loop μ-loop
+write-all-requires c κs = search needs
+
 print-tally-requires : tie.Need-print-tally-requires Inv-loop μ-loop
 print-tally-requires c κs = search needs
 
@@ -78,5 +84,7 @@ try-all-spec =
     slice-aggregate-print-item-3
     sub-print-item
     print-item-requires-3
+    slice-aggregate-write-all
+    write-all-requires
     print-tally-requires
     returns)
