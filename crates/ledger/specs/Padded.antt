@@ -1,4 +1,4 @@
--- Columns whose first places are given, and prices and charges within their limits. Assumes nothing: these are definitions.
+-- Columns whose first places are given, prices within the limit, and charges. Assumes nothing: these are definitions.
 use mathlib.Core.Path.{_≡_}
 use mathlib.Core.Bool.{Bool, false, cond}
 use mathlib.Core.List.{List}
@@ -18,7 +18,3 @@ Prices-low m prices = (k : ℕ) → k < m → getD prices k 0 ≤ 1000000
 -- the charge of the row at place k: its price, or more than any choice costs
 abbrev pub charged : (prices : List ℕ) → (fixed : List Bool) → (k : ℕ) → ℕ
 charged prices fixed k = cond (getD fixed k false) 256000001 (getD prices k 0)
-
--- none of the first m charges is over that of a fixed row
-abbrev pub Charges-low : (m : ℕ) → (charges : List ℕ) → Type 0
-Charges-low m charges = (k : ℕ) → k < m → getD charges k 0 ≤ 256000001

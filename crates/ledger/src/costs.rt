@@ -3,7 +3,7 @@ ghost use mathlib.Core.Path.{_≡_};
 ghost use mathlib.Core.Bool.{cond};
 ghost use Prim.Native.Nat.{ℕ, _+_, _*_, _^_, _≤_, _<_};
 ghost use lib.ListN.{getD};
-ghost use Rattle.ledger.specs.Padded.{Padded, charged, Charges-low};
+ghost use Rattle.ledger.specs.Padded.{Padded, charged, Prices-low};
 
 // More than 256 prices together: what no choice costs.
 const FIXED: u64 = 256_000_001;
@@ -29,15 +29,15 @@ pub fn charges<'a>(m: usize, prices: &'a [u32; 256], fixed: &'a [bool; 256]) -> 
     costs
 }
 
-// The ranked costs of the first m rows, from their charges: they decide by total, then by row count.
-pub fn ranked_costs(m: usize, charges: &[u64; 256]) -> [u64; 256]
-    requires { ⌜ (m ≤ 256) × Charges-low m (now charges) ⌝ }
-    ensures { λ r. ⌜ Padded 256 (λ (k : ℕ). 257 * getD (now (charges .entry)) k 0 + 1) m r ⌝ }
+// The ranked costs of the first m rows: they decide by total, then by row count.
+pub fn ranked_costs<'a>(m: usize, prices: &'a [u32; 256], fixed: &'a [bool; 256]) -> [u64; 256]
+    requires { ⌜ (m ≤ 256) × Prices-low m (now prices) ⌝ }
+    ensures { λ r. ⌜ Padded 256 (λ (k : ℕ). 257 * charged (now (prices .entry)) (now (fixed .entry)) k + 1) m r ⌝ }
 {
     let mut costs = [0u64; 256];
     let mut k: usize = 0;
     while k < m {
-        costs[k] = 257 * charges[k] + 1;
+        costs[k] = 257 * charge(prices[k], fixed[k]) + 1;
         k += 1;
     }
     costs

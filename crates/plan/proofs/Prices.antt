@@ -21,7 +21,8 @@ use Rattle.columns.specs.Columns.{flagged, Ends, Columns, Marks, Neighbourhoods
 use Rattle.zerograph.specs.Low.{Low}
 use Rattle.repair.specs.declared.State.{State}
 use Rattle.repair.specs.Repairs.{Repair-start}
-use Rattle.ledger.specs.Padded.{Padded, Prices-low, charged, Charges-low}
+use Rattle.ledger.specs.Padded.{Padded, Prices-low, charged}
+use Rattle.ledger.proofs.Padded.{charged-low}
 use Rattle.plan.specs.Ready.{Modest, Ready, Cheapest}
 
 -- the columns hold an accepted hall, its prices and its marks
@@ -53,6 +54,10 @@ module _ (h : Hall) (n m : ℕ) (tails heads prices : List ℕ) (fixed : List Bo
   few : count h ≤ 256
   few = rd .able .few
 
+  are-charges : (i : ℕ) → 1 ≤ i → i ≤ count h → charged prices fixed (i - 1) ≡ charge h i
+  unfolding charge
+  are-charges i l u = ap₂ (λ (b : Bool) (x : ℕ). cond b 256000001 x) (rd .marks i l u) (rd .price i l u)
+
   -- the rows that are not fixed
   module _ (rows : List Bool) (others : Others fixed rows) where
     are-unfixed : (i : ℕ) → 1 ≤ i → i ≤ count h → flagged rows i ≡ unfixed-row h i
@@ -69,18 +74,12 @@ module _ (h : Hall) (n m : ℕ) (tails heads prices : List ℕ) (fixed : List Bo
   -- at the charges, from the rows that are not fixed
   module _ (charges : List ℕ) (filled : Padded 256 (charged prices fixed) m charges) where
     charge-at : (i : ℕ) → 1 ≤ i → i ≤ count h → at charges i ≡ charge h i
-    unfolding charge
-    charge-at i l u =
-        filled .first (i - 1) (omega (arith, rd .columns .rows)) ∙ ap₂ (λ (b : Bool) (x : ℕ). cond b 256000001 x) (rd .marks i l u) (rd .price i l u)
-
-    pub charges-low : Charges-low m charges
-    charges-low k l =
-        by-bool (getD fixed k false) (λ e. let here = filled .first k l in let most : charged prices fixed k ≡ 256000001 = rw e in omega (arith, here, most))
-        (λ e. let here = filled .first k l in let low : charged prices fixed k ≡ getD prices k 0 = rw e in omega (arith, here, low, priced k l))
+    charge-at i l u = filled .first (i - 1) (omega (arith, rd .columns .rows)) ∙ are-charges i l u
 
     pub charge-modest : Modest charges
     charge-modest k =
-        by-bool (ltb k m) (λ t. omega (arith, charges-low k (ltb-true k m t))) (λ t. omega (arith, filled .rest k (ltb-false k m t)))
+        by-bool (ltb k m) (λ t. let in-it = ltb-true k m t in omega (arith, filled .first k in-it, charged-low prices fixed k (priced k in-it)))
+        (λ t. omega (arith, filled .rest k (ltb-false k m t)))
 
     pub charge-least : (rows : List Bool) → Others fixed rows → (s : State) → Cheapest h charges rows s → Least h s
     charge-least rows others s end =
@@ -105,15 +104,15 @@ module _ (h : Hall) (n m : ℕ) (tails heads prices : List ℕ) (fixed : List Bo
         let here : at (s .potential) (suc k) ≡ getD (s .potential) k 0 = ap (λ (x : ℕ). getD (s .potential) x 0) e in
         omega (arith, least .low (suc k) (omega arith) (omega arith))
 
-    module _ (charges : List ℕ) (filled : Padded 256 (charged prices fixed) m charges) (costs : List ℕ) (are-ranked : Padded 256 (λ k. 257 * getD charges k 0 + 1) m costs) (levels : List ℕ) (scaled : Padded 64 (λ k. 257 * getD (s .potential) k 0) 64 levels) where
+    module _ (costs : List ℕ) (filled : Padded 256 (λ k. 257 * charged prices fixed k + 1) m costs) (levels : List ℕ) (scaled : Padded 64 (λ k. 257 * getD (s .potential) k 0) 64 levels) where
       pub ranked-low : Low costs
       ranked-low k =
           by-bool (ltb k m)
-          (λ t. let in-it = ltb-true k m t in omega (arith, are-ranked .first k in-it, charges-low charges filled k in-it))
-          (λ t. omega (arith, are-ranked .rest k (ltb-false k m t)))
+          (λ t. let in-it = ltb-true k m t in omega (arith, filled .first k in-it, charged-low prices fixed k (priced k in-it)))
+          (λ t. omega (arith, filled .rest k (ltb-false k m t)))
 
       ranked-cost : (i : ℕ) → 1 ≤ i → i ≤ count h → at costs i ≡ 257 * charge h i + 1
-      ranked-cost i l u = are-ranked .first (i - 1) (omega (arith, rd .columns .rows)) ∙ ap (λ (x : ℕ). 257 * x + 1) (charge-at charges filled i l u)
+      ranked-cost i l u = filled .first (i - 1) (omega (arith, rd .columns .rows)) ∙ ap (λ (x : ℕ). 257 * x + 1) (are-charges i l u)
 
       pub ranked-at : (i : ℕ) → 1 ≤ i → i ≤ m → at costs i ≡ ranked h i
       unfolding ranked

@@ -39,14 +39,16 @@ use Rattle.planning.proofs.Fronts.{cuts-count, shores-front, weights-fr
 use Rattle.hallfile.proofs.Accepted as accepted
 
 module _ (bs : List ℕ) (fine : eqb (hall-refusal bs .number) 0 ≡ true) (x : HallRecord) (is : x ≡ record-of (hall-in bs)) where
-  pub ready : Accepted (hall-in bs) (x .n) (x .count) (x .tails) (x .heads) (x .prices)
+  pub ready : Accepted (hall-in bs) (x .n) (x .count) (x .tails) (x .heads) (x .prices) (x .fixed)
   ready =
+      let sound = accepted.sound bs fine in
       record {
         columns = accepted.columns bs fine x is;
         ranged = accepted.ranged bs fine;
         linked = accepted.linked bs fine;
-        price = record-prices (hall-in bs) (accepted.sound bs fine .rows-few) x is;
-        dear = accepted.sound bs fine .price;
+        able = record { few = sound .rows-few; low = sound .price; joining = accepted.unfixed-joining bs fine };
+        price = record-prices (hall-in bs) (sound .rows-few) x is;
+        marks = accepted.marks bs fine x is;
       }
 
 -- every row, as flags
@@ -55,7 +57,7 @@ unfolding Arcs
 every-flagged h sets few is-arcs y l u =
     is-arcs y l u ∙ arcs-ext h (flagged (replicate 256 true)) (λ i. true) (λ i p q. getD-replicate 256 (i - 1) true false (omega arith)) y
 
-module _ (h : Hall) (n m : ℕ) (tails heads prices : List ℕ) (rd : Accepted h n m tails heads prices) (ends : Ends n m tails heads) (s : State) (least : Least h s) where
+module _ (h : Hall) (n m : ℕ) (tails heads prices : List ℕ) (fixed : List Bool) (rd : Accepted h n m tails heads prices fixed) (ends : Ends n m tails heads) (s : State) (least : Least h s) where
   pub under : Under-top n (at (s .potential)) highest
   unfolding Under-top
   under j l u = least .low j l (omega (arith, ends .size))
@@ -89,7 +91,7 @@ module _ (h : Hall) (n m : ℕ) (tails heads prices : List ℕ) (rd : Accepted h
         c,
         ks,
         is-first,
-        beside-first h (rd .ranged) (rd .linked) c is-first (at (s .potential)) (flagged (s .chosen)) (least .repaired) highest (λ j l u. least .low j l (omega (arith, ends .size))),
+        beside-first h (rd .able) (rd .ranged) (rd .linked) c is-first (at (s .potential)) (flagged (s .chosen)) (least .repaired) highest (λ j l u. least .low j l (omega (arith, ends .size))),
         (
           refl,
           rows-are .1,

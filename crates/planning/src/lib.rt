@@ -57,8 +57,16 @@ fn plan_hall(
 {
     let every = [true; 256];
     let links = adjacency::of_rows(hall.n, hall.count, &hall.tails, &hall.heads, &every);
-    let prices = ledger::costs::price_costs(hall.count, &hall.prices);
-    let least = plan::cheapest(hall.n, hall.count, &hall.tails, &hall.heads, &prices, every);
+    let charges = ledger::costs::charges(hall.count, &hall.prices, &hall.fixed);
+    let unfixed = choice::unflagged(&hall.fixed);
+    let least = plan::cheapest(
+        hall.n,
+        hall.count,
+        &hall.tails,
+        &hall.heads,
+        &charges,
+        unfixed,
+    );
     let cuts = cuts::fill(
         hall.n,
         &links,
@@ -70,7 +78,7 @@ fn plan_hall(
     );
     let chosen = least.chosen;
     let around = least.around;
-    let costs = ledger::costs::ranked_costs(hall.count, &hall.prices);
+    let costs = ledger::costs::ranked_costs(hall.count, &hall.prices, &hall.fixed);
     let scaled = ledger::costs::scaled(&least.potential);
     let first = plan::first_choice(
         hall.n,

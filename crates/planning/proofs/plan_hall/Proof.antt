@@ -87,7 +87,7 @@ module _ (s : tie.Start) where
 
   -- its columns hold a hall
   abbrev Holds : Hall → Type 0
-  Holds k = Accepted k (hall .n) (hall .count) (hall .tails) (hall .heads) (hall .prices)
+  Holds k = Accepted k (hall .n) (hall .count) (hall .tails) (hall .heads) (hall .prices) (hall .fixed)
 
   is-ready : Holds h
   is-ready = ready (s .pre .4 .0) (s .pre .4 .1) hall (s .pre .4 .2)
@@ -96,7 +96,7 @@ module _ (s : tie.Start) where
   ends = accepted.ends (s .pre .4 .0) (s .pre .4 .1) hall (s .pre .4 .2)
 
   prices-low : Prices-low (hall .count) (hall .prices)
-  prices-low = priced h (hall .n) (hall .count) (hall .tails) (hall .heads) (hall .prices) is-ready ends
+  prices-low = priced h (hall .n) (hall .count) (hall .tails) (hall .heads) (hall .prices) (hall .fixed) is-ready ends
 
 of-rows-requires : tie.Need-of-rows-requires
 of-rows-requires c κs = ends (at-start c)
@@ -108,8 +108,8 @@ cheapest-requires : tie.Need-cheapest-requires
 cheapest-requires c κs =
     let s = from-least c in let x = hall s in let costs = at-prices c .price-costs in (
       ends s,
-      price-modest (h s) (x .n) (x .count) (x .tails) (x .heads) (x .prices) (is-ready s) (ends s) (costs .result) (costs .ensures),
-      (h s, every-ready (h s) (x .n) (x .count) (x .tails) (x .heads) (x .prices) (is-ready s) (ends s)),
+      price-modest (h s) (x .n) (x .count) (x .tails) (x .heads) (x .prices) (x .fixed) (is-ready s) (ends s) (costs .result) (costs .ensures),
+      (h s, every-ready (h s) (x .n) (x .count) (x .tails) (x .heads) (x .prices) (x .fixed) (is-ready s) (ends s)),
     )
 
 -- what is least, for any hall in the columns
@@ -117,18 +117,18 @@ module _ (c : tie.After-fill-arg5) (k : Hall) (rd : Holds (from-cuts c) k) where
   is-least : Least k (at-least c .cheapest .result)
   is-least =
       let s = from-cuts c in let x = hall s in let costs = at-prices (at-least c .before) .price-costs in let found = at-least c .cheapest in
-      price-least k (x .n) (x .count) (x .tails) (x .heads) (x .prices) rd (ends s) (costs .result) (costs .ensures) (found .result)
-      (found .ensures k (every-ready k (x .n) (x .count) (x .tails) (x .heads) (x .prices) rd (ends s)))
+      price-least k (x .n) (x .count) (x .tails) (x .heads) (x .prices) (x .fixed) rd (ends s) (costs .result) (costs .ensures) (found .result)
+      (found .ensures k (every-ready k (x .n) (x .count) (x .tails) (x .heads) (x .prices) (x .fixed) rd (ends s)))
 
   beside : Beside-rows k (flagged (at-least c .cheapest .result .chosen)) (hall (from-cuts c) .n) (at-links (at-prices (at-least c .before) .before) .of-rows .result)
       (at-least c .cheapest .result .around) (at-least c .cheapest .result .potential)
   beside =
       let s = from-cuts c in let x = hall s in let links = at-links (at-prices (at-least c .before) .before) .of-rows in
-      beside-rows k (x .n) (x .count) (x .tails) (x .heads) (x .prices) rd (ends s) (at-least c .cheapest .result) is-least (links .result)
+      beside-rows k (x .n) (x .count) (x .tails) (x .heads) (x .prices) (x .fixed) rd (ends s) (at-least c .cheapest .result) is-least (links .result)
       (every-flagged k (links .result) (omega (arith, rd .columns .rows, ends s .few)) (links .ensures k (rd .columns)))
 
   levels-under : Under-top (hall (from-cuts c) .n) (at (at-least c .cheapest .result .potential)) highest
-  levels-under = let s = from-cuts c in let x = hall s in under k (x .n) (x .count) (x .tails) (x .heads) (x .prices) rd (ends s) (at-least c .cheapest .result) is-least
+  levels-under = let s = from-cuts c in let x = hall s in under k (x .n) (x .count) (x .tails) (x .heads) (x .prices) (x .fixed) rd (ends s) (at-least c .cheapest .result) is-least
 
 fill-requires : tie.Need-fill-requires
 fill-requires c κs =
@@ -141,16 +141,16 @@ ranked-costs-requires c κs = let s = from-costs c in (ends s .few, prices-low s
 scaled-requires : tie.Need-scaled-requires
 scaled-requires c κs =
     let costs = at-costs c in let s = from-costs (costs .before) in let x = hall s in let fill = at-cuts (costs .before) .before in
-    level-low (h s) (x .n) (x .count) (x .tails) (x .heads) (x .prices) (is-ready s) (ends s) (at-least fill .cheapest .result) (is-least fill (h s) (is-ready s))
+    level-low (h s) (x .n) (x .count) (x .tails) (x .heads) (x .prices) (x .fixed) (is-ready s) (ends s) (at-least fill .cheapest .result) (is-least fill (h s) (is-ready s))
 
 first-choice-requires : tie.Need-first-choice-requires
 first-choice-requires c κs =
     let scaled = at-scaled c in let costs = at-costs (scaled .before) in let fill = at-cuts (costs .before) .before in
     let s = from-cuts fill in let x = hall s in let found = at-least fill .cheapest .result in let least = is-least fill (h s) (is-ready s) in (
       ends s,
-      ranked-low (h s) (x .n) (x .count) (x .tails) (x .heads) (x .prices) (is-ready s) (ends s) found least
+      ranked-low (h s) (x .n) (x .count) (x .tails) (x .heads) (x .prices) (x .fixed) (is-ready s) (ends s) found least
           (costs .ranked-costs .result) (costs .ranked-costs .ensures) (scaled .scaled .result) (scaled .scaled .ensures),
-      ranked-begin (h s) (x .n) (x .count) (x .tails) (x .heads) (x .prices) (is-ready s) (ends s) found least
+      ranked-begin (h s) (x .n) (x .count) (x .tails) (x .heads) (x .prices) (x .fixed) (is-ready s) (ends s) found least
           (costs .ranked-costs .result) (costs .ranked-costs .ensures) (scaled .scaled .result) (scaled .scaled .ensures),
     )
 
@@ -161,9 +161,9 @@ module _ (c : tie.After-first-choice) (k : Hall) (rd : Holds (from-first (c .bef
       let scaled = at-scaled (c .before) in let costs = at-costs (scaled .before) in let fill = at-cuts (costs .before) .before in
       let s = from-cuts fill in let x = hall s in let found = at-least fill .cheapest .result in let least = is-least fill k rd in
       c .first-choice .ensures k (rd .columns) (rd .ranged)
-      (ranked-at k (x .n) (x .count) (x .tails) (x .heads) (x .prices) rd (ends s) found least
+      (ranked-at k (x .n) (x .count) (x .tails) (x .heads) (x .prices) (x .fixed) rd (ends s) found least
       (costs .ranked-costs .result) (costs .ranked-costs .ensures) (scaled .scaled .result) (scaled .scaled .ensures))
-      (ranked-can k (x .n) (x .count) (x .tails) (x .heads) (x .prices) rd (ends s) found least
+      (ranked-can k (x .n) (x .count) (x .tails) (x .heads) (x .prices) (x .fixed) rd (ends s) found least
       (costs .ranked-costs .result) (costs .ranked-costs .ensures) (scaled .scaled .result) (scaled .scaled .ensures))
       (least .around)
 
@@ -218,7 +218,7 @@ returns c =
     λ bs fine is.
     let k = hall-in bs in let rd = ready bs fine x is in
     let got = cuts .fill .ensures k (flagged (found .chosen)) (beside fill k rd) highest (levels-under fill k rd) in
-    planned k (x .n) (x .count) (x .tails) (x .heads) (x .prices) rd (ends s) found (is-least fill k rd) (first .first-choice .result) (is-first first k rd)
+    planned k (x .n) (x .count) (x .tails) (x .heads) (x .prices) (x .fixed) rd (ends s) found (is-least fill k rd) (first .first-choice .result) (is-first first k rd)
     (a .rows .now) _ (a .shores .now) _ (a .weights .now) _ (a .levels .now) _ (s .pre .1) (s .pre .2) (s .pre .3) (cuts .fill .result) (rows .list-rows .result) (c .total-of .result)
     (got .0) (got .1) (rows .list-rows .ensures .1 k (rd .columns .rows)) (c .total-of .ensures)
 
