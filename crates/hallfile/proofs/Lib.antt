@@ -6,3 +6,4 @@ pub mod Progress
 pub mod Records
 pub mod Refusals
 pub mod Reply
+pub mod Unfixed

@@ -1,5 +1,5 @@
 -- The fixed order of the refusals, test by test. Assumes nothing.
-use mathlib.Core.Path.{_≡_, sym, ap, _∙_}
+use mathlib.Core.Path.{_≡_, refl, sym, ap, _∙_}
 use mathlib.Core.Bool.{Bool, true, false, _&&_, cond}
 use mathlib.Core.List.{List}
 use Prim.Native.Nat.{ℕ, _+_, _*_, _<_, _≤_}
@@ -9,9 +9,11 @@ use lib.ListN.{length}
 use borrow.Author.Tests.{lt-ltb, le-ltb, leb-true}
 use Rattle.laws.proofs.Booleans.{by-bool, and-l, and-r, cond-true, cond-false}
 use Rattle.hall.specs.Hall.{hall, count}
-use Rattle.hall.specs.File.{Refusal, refusal, or-else, field, blocks, pairs-good, all-rows, hall-in, rows-refusal, connected, hall-refusal}
+use Rattle.hall.specs.File.{Refusal, refusal, or-else, field, blocks, pairs-good, all-rows, hall-in, rows-refusal, connected, openable, hall-refusal}
+use Rattle.dicuts.specs.Shores.{Linked}
 use Rattle.joining.specs.Sound.{Sound}
-use Rattle.joining.proofs.Sound.{other-sound}
+use Rattle.joining.proofs.Sound.{walked, other-sound, sound-refusal, sound-ranged}
+use Rattle.joining.proofs.Connected.{connected-linked}
 use Rattle.filerows.specs.Places.{Table}
 use Rattle.hallfile.specs.Shape.{shape-refusal}
 
@@ -71,8 +73,8 @@ module _ (bs : List ℕ) where
   unfolding hall-in
   hall-is n e = rw e
 
--- 9 comes after all others
-pub refuse-last : (bs : List ℕ) → hall-refusal bs ≡ or-else (shape-refusal bs) (cond (connected (hall-in bs)) (refusal 0 0) (refusal 9 0))
+-- 9 and 15 come after all others
+pub refuse-last : (bs : List ℕ) → hall-refusal bs ≡ or-else (shape-refusal bs) (walked bs)
 unfolding shape-refusal hall-refusal or-else refusal blocks
 refuse-last bs =
     by-bool (length-good bs)
@@ -88,14 +90,23 @@ module _ (bs : List ℕ) where
   unfolding or-else
   shape-refused t = refuse-last bs ∙ cond-false (eqb (shape-refusal bs .number) 0) _ (shape-refusal bs) t
 
-  pub shape-passed : eqb (shape-refusal bs .number) 0 ≡ true → hall-refusal bs ≡ cond (connected (hall-in bs)) (refusal 0 0) (refusal 9 0)
+  pub shape-passed : eqb (shape-refusal bs .number) 0 ≡ true → hall-refusal bs ≡ walked bs
   unfolding or-else
-  shape-passed t = refuse-last bs ∙ cond-true (eqb (shape-refusal bs .number) 0) (cond (connected (hall-in bs)) (refusal 0 0) (refusal 9 0)) _ t
+  shape-passed t = refuse-last bs ∙ cond-true (eqb (shape-refusal bs .number) 0) (walked bs) _ t
 
+  -- neither 9 nor 15 is one of 2 to 8
   pub shape-sound : eqb (shape-refusal bs .number) 0 ≡ true → Sound bs
   unfolding refusal
   shape-sound t =
+      let number : hall-refusal bs .number ≡ walked bs .number = ap (λ (w : Refusal). w .number) (shape-passed t) in
       other-sound bs
       (by-bool (connected (hall-in bs))
-      (λ e. let q = ap (λ (w : Refusal). w .number) (shape-passed t ∙ cond-true (connected (hall-in bs)) (refusal 0 0) (refusal 9 0) e) in λ l h. omega (arith, q))
-      (λ e. let q = ap (λ (w : Refusal). w .number) (shape-passed t ∙ cond-false (connected (hall-in bs)) (refusal 0 0) (refusal 9 0) e) in λ l h. omega (arith, q)))
+      (λ e. by-bool (openable (hall-in bs)) (λ o. let q = rw (e, o) at number in λ l h. omega (arith, q)) (λ o. let q = rw (e, o) at number in λ l h. omega (arith, q)))
+      (λ e. let q = rw e at number in λ l h. omega (arith, q)))
+
+  -- of a sound file the walk tells the refusal
+  pub sound-walked : Sound bs → (joined opens : Bool) → joined ≡ connected (hall-in bs) → (Linked (hall-in bs) → opens ≡ openable (hall-in bs))
+      → cond joined (cond opens (refusal 0 0) (refusal 15 0)) (refusal 9 0) ≡ hall-refusal bs
+  sound-walked g joined opens j o =
+      by-bool (connected (hall-in bs)) (λ e. rw (sound-refusal bs g, j, e, o (connected-linked (hall-in bs) (sound-ranged bs g) e)) refl)
+      (λ e. rw (sound-refusal bs g, j, e) refl)

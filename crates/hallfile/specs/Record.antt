@@ -1,6 +1,6 @@
 -- A hall as columns of 256 places. Assumes nothing: these are definitions.
 use mathlib.Core.Path.{_≡_}
-use mathlib.Core.Bool.{cond}
+use mathlib.Core.Bool.{false, cond}
 use mathlib.Core.List.{List, [], _∷_, map}
 use Prim.Native.Nat.{ℕ, zero, suc}
 use lib.Dec.{eqb}
@@ -10,15 +10,15 @@ use Rattle.hallfile.specs.declared.HallRecord.{HallRecord}
 use Rattle.hallfile.specs.declared.Reading.{Reading}
 use Rattle.refusals.specs.Kinds.{refusal-of}
 
--- the numbers, cut or filled up by zeros to `size` places
-unfoldable pub padded : (size : ℕ) → List ℕ → List ℕ
-padded zero xs = []
-padded (suc k) [] = 0 ∷ padded k []
-padded (suc k) (x ∷ xs) = x ∷ padded k xs
+-- the values, cut or filled up to `size` places
+unfoldable pub padded : {A : Type 0} → (filler : A) → (size : ℕ) → List A → List A
+padded d zero xs = []
+padded d (suc k) [] = d ∷ padded d k []
+padded d (suc k) (x ∷ xs) = x ∷ padded d k xs
 
 -- one column of the rows
-unfoldable pub column : (Row → ℕ) → List Row → List ℕ
-column f rs = padded 256 (map f rs)
+unfoldable pub column : {A : Type 0} → (filler : A) → (Row → A) → List Row → List A
+column d f rs = padded d 256 (map f rs)
 
 -- THE RECORD OF A HALL: every place of it
 unfoldable pub record-of : Hall → HallRecord
@@ -26,9 +26,10 @@ record-of h =
     record {
       n = h .n;
       count = count h;
-      tails = column (λ r. r .from) (h .rows);
-      heads = column (λ r. r .to) (h .rows);
-      prices = column (λ r. r .price) (h .rows);
+      tails = column 0 (λ r. r .from) (h .rows);
+      heads = column 0 (λ r. r .to) (h .rows);
+      prices = column 0 (λ r. r .price) (h .rows);
+      fixed = column false (λ r. r .fixed) (h .rows);
     }
 
 -- the record of no hall

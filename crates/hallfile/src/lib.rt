@@ -1,11 +1,12 @@
-// Reading a hall from the bytes of its file: refusals 2 to 9 in their fixed order, and the hall as columns.
-// It stands on the rows of `filerows`, what a hall's rows reach (`adjacency`, `digraph`) and the kinds of `refusals`.
+// Reading a hall from the bytes of its file: refusals 2 to 9 and 15 in their fixed order, and the hall as columns.
+// It stands on the rows of `filerows`, what a hall's rows reach (`adjacency`, `digraph`, `choice`) and the kinds of `refusals`.
 ghost use mathlib.Core.Path.{_≡_};
-ghost use mathlib.Core.Bool.{_&&_};
+ghost use mathlib.Core.Bool.{_&&_, cond};
 ghost use Prim.Native.Nat.{_+_, _*_};
 ghost use lib.Dec.{leb};
 ghost use lib.ListN.{length};
-ghost use Rattle.hall.specs.File.{pairs-good, hall-in, hall-refusal};
+ghost use Rattle.hall.specs.File.{pairs-good, hall-in, refusal, hall-refusal};
+ghost use Rattle.refusals.specs.Kinds.{refusal-of};
 ghost use Rattle.hallfile.specs.Record.{Replies, empty-record};
 ghost use Rattle.hallfile.specs.Shape.{shape-refusal};
 use filerows::blocks;
@@ -13,15 +14,17 @@ use filerows::little;
 use refusals::Kind;
 
 mod connected;
+mod openable;
 mod rows;
 
-// A hall as columns: row i stands at place i - 1, unused places are zero.
+// A hall as columns: row i stands at place i - 1, unused places are zero, and not marked as fixed.
 pub struct HallRecord {
     pub n: usize,
     pub count: usize,
     pub tails: [u8; 256],
     pub heads: [u8; 256],
     pub prices: [u32; 256],
+    pub fixed: [bool; 256],
 }
 
 impl HallRecord {
@@ -46,6 +49,7 @@ impl HallRecord {
             tails: [0; 256],
             heads: [0; 256],
             prices: [0; 256],
+            fixed: [false; 256],
         }
     }
 }
@@ -103,7 +107,20 @@ fn read_shape(file: &[u8]) -> Reading
     rows::read_rows(file, n, count)
 }
 
-// The first refusal of 2 to 9 that the file meets, and the hall where there is none.
+// 9 for a hall that falls apart, then 15 for one with a directed cut of fixed rows only, or none.
+fn walk_refusal(joined: bool, opens: bool) -> Kind
+    ensures { λ r. ⌜ refusal-of r ≡ cond joined (cond opens (refusal 0 0) (refusal 15 0)) (refusal 9 0) ⌝ }
+{
+    if !joined {
+        return Kind::Unjoined;
+    }
+    if !opens {
+        return Kind::FixedCut;
+    }
+    Kind::None
+}
+
+// The first refusal of 2 to 9 and 15 that the file meets, and the hall where there is none.
 pub fn read_hall(file: &[u8]) -> Reading
     ensures { λ r. ⌜ Replies (hall-refusal (now (file .entry))) (hall-in (now (file .entry))) r ⌝ }
 {
@@ -112,8 +129,11 @@ pub fn read_hall(file: &[u8]) -> Reading
     if !refusal.is_none() {
         return reading;
     }
-    if !connected::is_connected(reading.hall) {
-        return Reading::refused(Kind::Unjoined);
+    let joined = connected::is_connected(reading.hall);
+    let opens = openable::is_openable(reading.hall);
+    let walked = walk_refusal(joined, opens);
+    if !walked.is_none() {
+        return Reading::refused(walked);
     }
     reading
 }

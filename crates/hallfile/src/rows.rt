@@ -8,16 +8,17 @@ use refusals::Kind;
 ghost use mathlib.Core.Path.{_≡_};
 ghost use Prim.Native.Nat.{_≤_};
 ghost use lib.ListN.{length};
-ghost use Rattle.hall.specs.Hall.{row-of, hall};
+ghost use Rattle.hall.specs.Hall.{hall};
 ghost use Rattle.hall.specs.File.{blocks, rows-refusal, all-rows};
 ghost use Rattle.refusals.specs.Kinds.{refusal-of};
 ghost use Rattle.filerows.specs.Places.{Table};
+ghost use Rattle.filerows.specs.Steps.{lane-row};
 ghost use Rattle.hallfile.specs.Record.{Replies};
 ghost use Rattle.hallfile.specs.Shape.{row-refusal};
 
 // 6 or 8 for row i of a hall of n junctions, or none.
 pub fn lane_refusal(n: usize, lane: Lane, i: u32) -> Kind
-    ensures { λ r. ⌜ refusal-of r ≡ row-refusal i n (row-of (lane .from) (lane .to) (lane .price)) ⌝ }
+    ensures { λ r. ⌜ refusal-of r ≡ row-refusal i n (lane-row lane) ⌝ }
 {
     let from = lane.from;
     let to = lane.to;
@@ -40,6 +41,7 @@ pub fn read_rows(file: &[u8], n: usize, count: usize) -> Reading
     let mut tails = [0u8; 256];
     let mut heads = [0u8; 256];
     let mut prices = [0u32; 256];
+    let mut fixed = [false; 256];
     let mut place = Place {
         at: 0,
         left: 0,
@@ -56,6 +58,7 @@ pub fn read_rows(file: &[u8], n: usize, count: usize) -> Reading
         tails[i] = lane.from as u8;
         heads[i] = lane.to as u8;
         prices[i] = lane.price as u32;
+        fixed[i] = lane.fixed;
         place = step.after;
         i += 1;
     }
@@ -67,6 +70,7 @@ pub fn read_rows(file: &[u8], n: usize, count: usize) -> Reading
             tails,
             heads,
             prices,
+            fixed,
         },
     }
 }

@@ -1,25 +1,24 @@
--- `hallfile::read_hall` replies with the first of the refusals 2 to 9, or with the hall: 9 is asked where none of 2 to 8 is met. Assumes nothing.
+-- `hallfile::read_hall` replies with the first of the refusals 2 to 9 and 15, or with the hall: 9 and 15 are asked where none of 2 to 8 is met. Assumes nothing.
 use mathlib.Core.Bool.{true}
 use mathlib.Core.List.{List}
-use mathlib.Core.Path.{_≡_, refl, sym, ap, _∙_}
+use mathlib.Core.Path.{_≡_, sym, ap, _∙_}
 use Prim.Native.Nat.{ℕ}
 use native.Mathlib.Omega.{arith}
 use lib.Dec.{eqb}
-use borrow.Author.Tests.{not-true, not-false}
+use borrow.Author.Tests.{not-false}
 use borrow.Author.Needs.{needs}
-use Rattle.hall.specs.File.{Refusal, refusal, hall-in}
+use Rattle.hall.specs.File.{Refusal, hall-in, hall-refusal}
 use Rattle.joining.specs.Sound.{Sound}
-use Rattle.joining.proofs.Sound.{sound-ranged, sound-connected, sound-unconnected}
-use Rattle.columns.specs.Columns.{Columns}
+use Rattle.joining.proofs.Sound.{sound-ranged}
+use Rattle.columns.specs.Columns.{Ends, Columns}
 use Rattle.hallfile.specs.declared.HallRecord.{HallRecord}
 use Rattle.hallfile.specs.Record.{record-of}
-use Rattle.refusals.specs.declared.Kind.the-variants.{Unjoined}
 use Rattle.refusals.specs.Kinds.{refusal-of}
 use Rattle.hallfile.specs.Shape.{shape-refusal}
-use Rattle.hallfile.proofs.Order.{shape-refused, shape-sound}
-use Rattle.hallfile.proofs.Records.{record-columns, record-ends}
+use Rattle.hallfile.proofs.Order.{shape-refused, shape-sound, sound-walked}
+use Rattle.hallfile.proofs.Records.{record-columns, record-marks, record-ends}
 use Rattle.refusals.proofs.Numbers.{kind-none, is-refused, is-fine}
-use Rattle.hallfile.proofs.Reply.{reply-kind, reply-hall, reply-record}
+use Rattle.hallfile.proofs.Reply.{reply-refused, reply-hall, reply-record}
 use Rattle.hallfile.proofs.read_hall.Statement.{statement}
 use Rattle.hallfile.proofs.read_hall.Tie as tie
 
@@ -54,6 +53,31 @@ module _ (e : tie.Else1) where
   columns : Columns (hall-in file) (hall-read .n) (hall-read .count) (hall-read .tails) (hall-read .heads)
   columns = record-columns (hall-in file) (sound .rows-few) hall-read is-record
 
+  ends : Ends (hall-read .n) (hall-read .count) (hall-read .tails) (hall-read .heads)
+  ends = record-ends (hall-in file) (sound .rows-few) hall-read is-record (sound-ranged file sound) (sound .junctions-few)
+
+-- where the walk through the hall is done and its refusal is tested
+module _ (v : tie.After-is-none2) where
+  abbrev at-walk : tie.After-walk-refusal
+  at-walk = v .before
+
+  abbrev at-openable : tie.After-is-openable
+  at-openable = at-walk .before
+
+  abbrev at-connected : tie.After-is-connected
+  at-connected = at-openable .before
+
+  abbrev unmet : tie.Else1
+  unmet = at-connected .before
+
+  walk-told : refusal-of (at-walk .walk-refusal .result) ≡ hall-refusal (file unmet)
+  walk-told =
+      let h = hall-in (file unmet) in
+      at-walk .walk-refusal .ensures
+      ∙ sound-walked (file unmet) (sound unmet) (at-connected .is-connected .result) (at-openable .is-openable .result) (at-connected .is-connected .ensures h (columns unmet))
+      (λ linked.
+      at-openable .is-openable .ensures h (columns unmet) (sound-ranged (file unmet) (sound unmet)) linked (record-marks h (sound unmet .rows-few) (hall-read unmet) (is-record unmet)))
+
 read-shape-requires : tie.Need-read-shape-requires
 read-shape-requires c κs = search needs
 
@@ -66,25 +90,31 @@ returns c = let reading = at-shape (c .before) .read-shape in let file = file-of
     rw (shape-refused file t) (reading .ensures)
 
 is-connected-requires : tie.Need-is-connected-requires
-is-connected-requires c κs = (
-  omega (arith, columns c .junctions, sound c .junctions-some),
-  record-ends (hall-in (file c)) (sound c .rows-few) (hall-read c) (is-record c) (sound-ranged (file c) (sound c)) (sound c .junctions-few),
-)
+is-connected-requires c κs = (omega (arith, columns c .junctions, sound c .junctions-some), ends c)
+
+is-openable-requires : tie.Need-is-openable-requires
+is-openable-requires c κs = let e = c .before in (ends e, (hall-in (file e), columns e))
+
+walk-refusal-requires : tie.Need-walk-refusal-requires
+walk-refusal-requires c κs = search needs
+
+is-none-requires-2 : tie.Need-is-none-requires-2
+is-none-requires-2 c κs = search needs
 
 refused-requires : tie.Need-refused-requires
 refused-requires c κs = search needs
 
 returns-2 : tie.Need-returns-2
-unfolding refusal-of refusal
-returns-2 c = let walk = c .before .before in let e = walk .before in
-    reply-kind Unjoined _ _ (c .refused .result) (c .refused .ensures)
-    (sound-unconnected (file e) (sound e) (sym (walk .is-connected .ensures (hall-in (file e)) (columns e)) ∙ not-true (walk .is-connected .result) (c .before .if2 .taken))) refl
+returns-2 c = let v = c .before .before in
+    reply-refused _ _ (c .refused .result) (ap refusal-of (c .refused .ensures .0) ∙ walk-told v)
+    (is-refused (at-walk v .walk-refusal .result) _ (v .is-none2 .result) (walk-told v) (v .is-none2 .ensures) (c .before .if2 .taken)) (c .refused .ensures .1)
 
 returns-3 : tie.Need-returns-3
-unfolding refusal
-returns-3 c = let walk = c .before in let e = walk .before in let reading = read e .read-shape in
-    let none = sound-connected (file e) (sound e) (sym (walk .is-connected .ensures (hall-in (file e)) (columns e)) ∙ not-false (walk .is-connected .result) (c .if2 .left)) in
-    reply-hall _ _ (reading .result) (kind-none (reading .result .refusal) (ap (λ (w : Refusal). eqb (w .number) 0) (reading .ensures .refusal) ∙ fine e) ∙ sym none) (rw none) (is-record e)
+returns-3 c = let v = c .before in let e = unmet v in let reading = read e .read-shape in let walked = at-walk v .walk-refusal .result in
+    let read-none = kind-none (reading .result .refusal) (ap (λ (w : Refusal). eqb (w .number) 0) (reading .ensures .refusal) ∙ fine e) in
+    let walk-none = kind-none walked (sym (v .is-none2 .ensures) ∙ not-false (v .is-none2 .result) (c .if2 .left)) in
+    reply-hall _ _ (reading .result) (read-none ∙ sym walk-none ∙ walk-told v)
+    (is-fine walked _ (v .is-none2 .result) (walk-told v) (v .is-none2 .ensures) (c .if2 .left)) (is-record e)
 
 pub read-hall-spec : {M : Type 1} → statement M
 read-hall-spec =
@@ -94,6 +124,9 @@ read-hall-spec =
     is-none-requires
     returns
     is-connected-requires
+    is-openable-requires
+    walk-refusal-requires
+    is-none-requires-2
     refused-requires
     returns-2
     returns-3)

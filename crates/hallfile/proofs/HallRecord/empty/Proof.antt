@@ -1,4 +1,4 @@
--- `hallfile::HallRecord::empty` gives the record of no hall: each column of no rows is 256 zeros. Assumes nothing.
+-- `hallfile::HallRecord::empty` gives the record of no hall: each column of no rows is 256 times its filler. Assumes nothing.
 use mathlib.Core.Path.{refl}
 use Rattle.hall.specs.Hall.{hall, count}
 use Rattle.hallfile.specs.Record.{empty-record, record-of, column, padded}
