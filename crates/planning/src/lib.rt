@@ -57,14 +57,14 @@ fn plan_hall(
 {
     let every = [true; 256];
     let links = adjacency::of_rows(hall.n, hall.count, &hall.tails, &hall.heads, &every);
-    let charges = ledger::costs::charges(hall.count, &hall.prices, &hall.fixed);
+    let charged = ledger::costs::charges(hall.count, &hall.prices, &hall.fixed);
     let unfixed = choice::unflagged(&hall.fixed);
     let least = plan::cheapest(
         hall.n,
         hall.count,
         &hall.tails,
         &hall.heads,
-        &charges,
+        &charged,
         unfixed,
     );
     let cuts = cuts::fill(

@@ -12,7 +12,7 @@ use Rattle.cuts.specs.Beside.{highest, Beside-rows}
 use Rattle.cuts.specs.Thresholds.{Under-top}
 use Rattle.hallfile.specs.declared.HallRecord.{HallRecord}
 use Rattle.ledger.specs.Padded.{Prices-low}
-use Rattle.plan.proofs.Prices.{Accepted, Least, priced, every-ready, price-modest, price-least, level-low, ranked-low, ranked-at, ranked-can, ranked-begin}
+use Rattle.plan.proofs.Prices.{Accepted, Least, priced, unfixed-ready, charge-modest, charge-least, level-low, ranked-low, ranked-at, ranked-can, ranked-begin}
 use Rattle.planning.proofs.Plan.{ready, every-flagged, beside-rows, under, planned}
 use Rattle.hallfile.proofs.Accepted as accepted
 use Rattle.planning.proofs.plan_hall.Statement.{statement}
@@ -25,11 +25,14 @@ at-hall c = c .before .before .before
 abbrev at-start : tie.After-every → tie.Start
 at-start c = at-hall c .before .before .before .before
 
-abbrev at-links : tie.After-price-costs-arg → tie.After-of-rows
-at-links c = c .before .before
+abbrev at-links : tie.After-charges-arg2 → tie.After-of-rows
+at-links c = c .before .before .before
 
-abbrev at-prices : tie.After-prices → tie.After-price-costs
-at-prices c = c .before .before .before .before
+abbrev at-charges : tie.After-unflagged-arg → tie.After-charges
+at-charges c = c .before .before
+
+abbrev at-unfixed : tie.After-charged → tie.After-unflagged
+at-unfixed c = c .before .before .before .before
 
 abbrev at-lent : tie.After-fill-arg5 → tie.After-fill-arg
 at-lent c = c .before .before .before .before
@@ -37,10 +40,10 @@ at-lent c = c .before .before .before .before
 abbrev at-least : tie.After-fill-arg5 → tie.After-cheapest
 at-least c = at-lent c .before .before .before
 
-abbrev at-levels : tie.After-ranked-costs-arg → tie.After-levels
-at-levels c = c .before .before .before .before
+abbrev at-levels : tie.After-ranked-costs-arg2 → tie.After-levels
+at-levels c = c .before .before .before .before .before
 
-abbrev at-cuts : tie.After-ranked-costs-arg → tie.After-fill
+abbrev at-cuts : tie.After-ranked-costs-arg2 → tie.After-fill
 at-cuts c = at-levels c .before .before .before .before .before
 
 abbrev at-costs : tie.After-scaled-arg → tie.After-ranked-costs
@@ -55,17 +58,24 @@ at-first c = c .before .before
 abbrev at-rows : tie.After-total-of-arg → tie.After-list-rows
 at-rows c = c .before .before .before .before
 
--- the start, from each call
-abbrev from-prices : tie.After-price-costs-arg → tie.Start
-from-prices c = at-start (at-links c .before)
+-- the links, from the place of the cuts
+abbrev read-links : tie.After-fill-arg5 → tie.After-of-rows
+read-links c = at-links (at-charges (at-unfixed (at-least c .before) .before) .before)
 
-abbrev from-least : tie.After-prices → tie.Start
-from-least c = from-prices (at-prices c .before)
+-- the start, from each call
+abbrev from-charges : tie.After-charges-arg2 → tie.Start
+from-charges c = at-start (at-links c .before)
+
+abbrev from-unfixed : tie.After-unflagged-arg → tie.Start
+from-unfixed c = from-charges (at-charges c .before)
+
+abbrev from-least : tie.After-charged → tie.Start
+from-least c = from-unfixed (at-unfixed c .before)
 
 abbrev from-cuts : tie.After-fill-arg5 → tie.Start
 from-cuts c = from-least (at-least c .before)
 
-abbrev from-costs : tie.After-ranked-costs-arg → tie.Start
+abbrev from-costs : tie.After-ranked-costs-arg2 → tie.Start
 from-costs c = from-cuts (at-cuts c .before)
 
 abbrev from-first : tie.After-costs → tie.Start
@@ -101,29 +111,37 @@ module _ (s : tie.Start) where
 of-rows-requires : tie.Need-of-rows-requires
 of-rows-requires c κs = ends (at-start c)
 
-price-costs-requires : tie.Need-price-costs-requires
-price-costs-requires c κs = let s = from-prices c in (ends s .few, prices-low s)
+charges-requires : tie.Need-charges-requires
+charges-requires c κs = ends (from-charges c) .few
+
+unflagged-requires : tie.Need-unflagged-requires
+unflagged-requires c κs = search needs
 
 cheapest-requires : tie.Need-cheapest-requires
 cheapest-requires c κs =
-    let s = from-least c in let x = hall s in let costs = at-prices c .price-costs in (
+    let s = from-least c in let x = hall s in let unfixed = at-unfixed c in let charges = at-charges (unfixed .before) .charges in (
       ends s,
-      price-modest (h s) (x .n) (x .count) (x .tails) (x .heads) (x .prices) (x .fixed) (is-ready s) (ends s) (costs .result) (costs .ensures),
-      (h s, every-ready (h s) (x .n) (x .count) (x .tails) (x .heads) (x .prices) (x .fixed) (is-ready s) (ends s)),
+      charge-modest (h s) (x .n) (x .count) (x .tails) (x .heads) (x .prices) (x .fixed) (is-ready s) (ends s) (charges .result) (charges .ensures),
+      (
+        h s,
+        unfixed-ready (h s) (x .n) (x .count) (x .tails) (x .heads) (x .prices) (x .fixed) (is-ready s) (ends s) (unfixed .unflagged .result) (unfixed .unflagged .ensures .1),
+      ),
     )
 
 -- what is least, for any hall in the columns
 module _ (c : tie.After-fill-arg5) (k : Hall) (rd : Holds (from-cuts c) k) where
   is-least : Least k (at-least c .cheapest .result)
   is-least =
-      let s = from-cuts c in let x = hall s in let costs = at-prices (at-least c .before) .price-costs in let found = at-least c .cheapest in
-      price-least k (x .n) (x .count) (x .tails) (x .heads) (x .prices) (x .fixed) rd (ends s) (costs .result) (costs .ensures) (found .result)
-      (found .ensures k (every-ready k (x .n) (x .count) (x .tails) (x .heads) (x .prices) (x .fixed) rd (ends s)))
+      let s = from-cuts c in let x = hall s in let found = at-least c .cheapest in
+      let unfixed = at-unfixed (at-least c .before) in let charges = at-charges (unfixed .before) .charges in
+      charge-least k (x .n) (x .count) (x .tails) (x .heads) (x .prices) (x .fixed) rd (ends s) (charges .result) (charges .ensures)
+      (unfixed .unflagged .result) (unfixed .unflagged .ensures .1) (found .result)
+      (found .ensures k (unfixed-ready k (x .n) (x .count) (x .tails) (x .heads) (x .prices) (x .fixed) rd (ends s) (unfixed .unflagged .result) (unfixed .unflagged .ensures .1)))
 
-  beside : Beside-rows k (flagged (at-least c .cheapest .result .chosen)) (hall (from-cuts c) .n) (at-links (at-prices (at-least c .before) .before) .of-rows .result)
+  beside : Beside-rows k (flagged (at-least c .cheapest .result .chosen)) (hall (from-cuts c) .n) (read-links c .of-rows .result)
       (at-least c .cheapest .result .around) (at-least c .cheapest .result .potential)
   beside =
-      let s = from-cuts c in let x = hall s in let links = at-links (at-prices (at-least c .before) .before) .of-rows in
+      let s = from-cuts c in let x = hall s in let links = read-links c .of-rows in
       beside-rows k (x .n) (x .count) (x .tails) (x .heads) (x .prices) (x .fixed) rd (ends s) (at-least c .cheapest .result) is-least (links .result)
       (every-flagged k (links .result) (omega (arith, rd .columns .rows, ends s .few)) (links .ensures k (rd .columns)))
 
@@ -160,7 +178,7 @@ module _ (c : tie.After-first-choice) (k : Hall) (rd : Holds (from-first (c .bef
   is-first =
       let scaled = at-scaled (c .before) in let costs = at-costs (scaled .before) in let fill = at-cuts (costs .before) .before in
       let s = from-cuts fill in let x = hall s in let found = at-least fill .cheapest .result in let least = is-least fill k rd in
-      c .first-choice .ensures k (rd .columns) (rd .ranged)
+      c .first-choice .ensures k (rd .columns) (rd .ranged) (rd .able)
       (ranked-at k (x .n) (x .count) (x .tails) (x .heads) (x .prices) (x .fixed) rd (ends s) found least
       (costs .ranked-costs .result) (costs .ranked-costs .ensures) (scaled .scaled .result) (scaled .scaled .ensures))
       (ranked-can k (x .n) (x .count) (x .tails) (x .heads) (x .prices) (x .fixed) rd (ends s) found least
@@ -189,14 +207,14 @@ module _ (c : tie.After-total-of) where
         ends s .size,
       )
 
-cast-t52 : tie.Need-cast-t52
-cast-t52 c = omega (arith, counts-few c, ends (from-total (c .before .before)) .few)
+cast-t56 : tie.Need-cast-t56
+cast-t56 c = omega (arith, counts-few c, ends (from-total (c .before .before)) .few)
 
-cast-t53 : tie.Need-cast-t53
-cast-t53 c = omega (arith, counts-few c, ends (from-total (c .before .before)) .few)
+cast-t57 : tie.Need-cast-t57
+cast-t57 c = omega (arith, counts-few c, ends (from-total (c .before .before)) .few)
 
-cast-t54 : tie.Need-cast-t54
-cast-t54 c = omega (arith, counts-few c, ends (from-total (c .before .before)) .few)
+cast-t58 : tie.Need-cast-t58
+cast-t58 c = omega (arith, counts-few c, ends (from-total (c .before .before)) .few)
 
 same-length : tie.Need-same-length
 same-length c = search needs
@@ -227,7 +245,8 @@ plan-hall-spec =
     tie.close
     (tie.spec
     of-rows-requires
-    price-costs-requires
+    charges-requires
+    unflagged-requires
     cheapest-requires
     fill-requires
     ranked-costs-requires
@@ -235,9 +254,9 @@ plan-hall-spec =
     first-choice-requires
     list-rows-requires
     total-of-requires
-    cast-t52
-    cast-t53
-    cast-t54
+    cast-t56
+    cast-t57
+    cast-t58
     same-length
     same-length-2
     same-length-3
