@@ -13,7 +13,7 @@ use Rattle.laws.specs.Finite.{any-below}
 use Rattle.laws.specs.Lists.{all-in}
 use Rattle.laws.proofs.Booleans.{by-bool, clash, not-true-false}
 use Rattle.laws.proofs.Finite.{any-intro}
-use Rattle.hall.specs.Hall.{Hall, row, count, ascends-from, none-fixed}
+use Rattle.hall.specs.Hall.{Hall, count, ascends-from, none-fixed, is-choice}
 use Rattle.dicuts.specs.Shores.{unfixed-row}
 use Rattle.dicuts.proofs.Choices.{ascends-low, ascends-high, ascends-rest}
 use Rattle.columns.specs.Columns.{flagged, Marks}
@@ -34,13 +34,23 @@ module _ (p : ℕ → Bool) (ns : List ℕ) where
 -- where the flags are the marks of a hall
 module _ (h : Hall) (fixed : List Bool) (marks : Marks h fixed) where
   -- of listed rows none is flagged exactly if none is fixed
-  pub none-flagged-fixed : (a : ℕ) (ns : List ℕ) → 1 ≤ a → ascends-from a (count h) ns ≡ true → all-in (λ i. not (flagged fixed i)) ns ≡ none-fixed h ns
+  none-flagged-fixed : (a : ℕ) (ns : List ℕ) → 1 ≤ a → ascends-from a (count h) ns ≡ true → all-in (λ i. not (flagged fixed i)) ns ≡ none-fixed h ns
   unfolding all-in none-fixed
   none-flagged-fixed a [] one e = refl
   none-flagged-fixed a (i ∷ is) one e =
       let low = ascends-low a (count h) i is e in
       ap₂ _&&_ (ap not (marks i (omega arith) (ascends-high a (count h) i is e)))
       (none-flagged-fixed (suc i) is (omega arith) (ascends-rest a (count h) i is e))
+
+  -- a list that ascends is a choice exactly if none of its rows is flagged, any other is none
+  module _ (m : ℕ) (rows : count h ≡ m) (ns : List ℕ) where
+    pub ascending-choice : ascends-from 1 m ns ≡ true → is-choice h ns ≡ all-in (λ i. not (flagged fixed i)) ns
+    unfolding is-choice
+    ascending-choice e = let own : ascends-from 1 (count h) ns ≡ true = rw rows e in rw own (sym (none-flagged-fixed 1 ns (omega arith) own))
+
+    pub unascending-choice : ascends-from 1 m ns ≡ false → is-choice h ns ≡ false
+    unfolding is-choice
+    unascending-choice e = rw (rows, e)
 
   module _ (few : count h ≤ 256) where
     -- where nothing is flagged, no row is fixed

@@ -8,14 +8,14 @@ ghost use Rattle.laws.specs.Finite.{any-below};
 ghost use Rattle.laws.specs.Lists.{all-in, at};
 ghost use Rattle.junctions.specs.Sets.{full};
 ghost use Rattle.digraph.specs.Closure.{closure};
-ghost use Rattle.hall.specs.Hall.{Hall, ascends-from, member, missed};
+ghost use Rattle.hall.specs.Hall.{Hall, count, ascends-from, is-choice, member, missed};
 ghost use Rattle.dicuts.specs.Shores.{Ranged};
-ghost use Rattle.columns.specs.Columns.{Ends, Columns, flagged};
+ghost use Rattle.columns.specs.Columns.{Ends, Columns, Marks, flagged};
 ghost use Rattle.choice.specs.Short.{Arcs-inside, Until, short-from, if-some};
 use junctions::Junctions;
 
 // The numbers ascend strictly from 1 up to the limit.
-pub fn ascends(numbers: &[u32], limit: u32) -> bool
+fn ascends(numbers: &[u32], limit: u32) -> bool
     requires { ⌜ limit ≤ 256 ⌝ }
     ensures { λ r. ⌜ r ≡ ascends-from 1 limit (now (numbers .entry)) ⌝ }
 {
@@ -51,7 +51,7 @@ pub fn flags(numbers: &[u32]) -> [bool; 256]
 }
 
 // No listed row is flagged.
-pub fn none_flagged(numbers: &[u32], flags: &[bool; 256]) -> bool
+fn none_flagged(numbers: &[u32], flags: &[bool; 256]) -> bool
     requires { ⌜ ascends-from 1 256 (now numbers) ≡ true ⌝ }
     ensures { λ r. ⌜ r ≡ all-in (λ (i : ℕ). not (flagged (now (flags .entry)) i)) (now (numbers .entry)) ⌝ }
 {
@@ -64,6 +64,17 @@ pub fn none_flagged(numbers: &[u32], flags: &[bool; 256]) -> bool
         k += 1;
     }
     true
+}
+
+// The numbers are a choice of a hall's rows: they ascend, and no row of them is fixed.
+pub fn is_choice(numbers: &[u32], rows: u32, fixed: &[bool; 256]) -> bool
+    requires { ⌜ rows ≤ 256 ⌝ }
+    ensures { λ r. ⌜ ((h : Hall) → count h ≡ rows → Marks h (now (fixed .entry)) → r ≡ is-choice h (now (numbers .entry))) ⌝ }
+{
+    if !ascends(numbers, rows) {
+        return false;
+    }
+    none_flagged(numbers, fixed)
 }
 
 // Some row is flagged.

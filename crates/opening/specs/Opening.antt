@@ -12,7 +12,7 @@ use Rattle.hallfile.specs.Record.{record-of}
 use Rattle.opening.specs.declared.Opened.{Opened}
 use Rattle.opening.specs.Choice.{choice-refusal}
 
--- the first refusal of 2 to 10, or where there is none the hall's record and the flags of the choice
+-- the first refusal of 2 to 9, 15 and 10, or where there is none the hall's record and the flags of the choice
 pub record Opening (bs c : List ℕ) (r : Opened) : Type 0 where
   pub refusal : refusal-of (r .refusal) ≡ choice-refusal bs c
   pub hall : eqb (choice-refusal bs c .number) 0 ≡ true → r .hall ≡ record-of (hall-in bs)

@@ -1,4 +1,4 @@
-// A hall and a choice of its rows, opened: refusals 2 to 10 in their order, or the hall's record and the flags of the choice.
+// A hall and a choice of its rows, opened: refusals 2 to 9, 15 and 10 in their order, or the hall's record and the flags of the choice.
 ghost use Rattle.opening.specs.Opening.{Opening};
 use hallfile::HallRecord;
 use refusals::Kind;
@@ -10,7 +10,7 @@ pub struct Opened {
     pub chosen: [bool; 256],
 }
 
-// The hall and the flags of a choice, or the first of refusals 2 to 10.
+// The hall and the flags of a choice, or the first of refusals 2 to 9, 15 and 10.
 pub fn open_choice(file: &[u8], choice: &[u32]) -> Opened
     ensures { λ r. ⌜ Opening (now (file .entry)) (now (choice .entry)) r ⌝ }
 {
@@ -25,7 +25,7 @@ pub fn open_choice(file: &[u8], choice: &[u32]) -> Opened
             chosen: none,
         };
     }
-    if !choice::ascends(choice, hall.count as u32) {
+    if !choice::is_choice(choice, hall.count as u32, &hall.fixed) {
         return Opened {
             refusal: Kind::Choice,
             hall,
@@ -34,7 +34,7 @@ pub fn open_choice(file: &[u8], choice: &[u32]) -> Opened
     }
     let chosen = choice::flags(choice);
     Opened {
-        refusal: Kind::None,
+        refusal,
         hall,
         chosen,
     }

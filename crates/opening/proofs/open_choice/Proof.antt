@@ -1,19 +1,20 @@
 -- `opening::open_choice` meets its contract: the hall's refusal, then 10 for a list that is no choice, else the record and the flags. Assumes nothing.
 use mathlib.Core.Path.{_≡_, sym, ap, _∙_}
-use mathlib.Core.Bool.{true}
+use mathlib.Core.Bool.{Bool, true}
 use mathlib.Core.List.{List}
 use Prim.Native.Nat.{ℕ}
 use native.Mathlib.Omega.{arith}
 use lib.Dec.{eqb}
 use borrow.Author.Tests.{not-true, not-false}
-use Rattle.hall.specs.Hall.{is-choice, ascends-from}
+use Rattle.hall.specs.Hall.{count, is-choice}
 use Rattle.hall.specs.File.{hall-in, hall-refusal, Refusal, refusal}
 use Rattle.hallfile.specs.declared.HallRecord.{HallRecord}
 use Rattle.refusals.specs.Kinds.{refusal-of}
 use Rattle.hallfile.specs.Record.{record-of}
-use Rattle.refusals.proofs.Numbers.{is-refused, is-fine}
+use Rattle.refusals.proofs.Numbers.{kind-none, is-refused, is-fine}
 use Rattle.hallfile.proofs.Reply.{reply-record}
-use Rattle.columns.specs.Columns.{Ends, Columns}
+use Rattle.dicuts.proofs.Choices.{choice-ascends}
+use Rattle.columns.specs.Columns.{Ends, Columns, Marks}
 use Rattle.choice.proofs.Ascent.{ascends-wider}
 use Rattle.opening.proofs.Opening.{hall-refused, list-refused, none-refused, opening-refused, row-flags}
 use Rattle.hallfile.proofs.Accepted as accepted
@@ -61,9 +62,19 @@ module _ (e : tie.Else1) where
   ends : Ends (hall-read .n) (hall-read .count) (hall-read .tails) (hall-read .heads)
   ends = accepted.ends bytes fine hall-read is-record
 
-  as-choice : is-choice (hall-in bytes) choice ≡ ascends-from 1 (hall-read .count) choice
-  unfolding is-choice
-  as-choice = ap (λ (m : ℕ). ascends-from 1 m choice) (columns .rows)
+  marks : Marks (hall-in bytes) (hall-read .fixed)
+  marks = accepted.marks bytes fine hall-read is-record
+
+-- where the list is tried
+module _ (tried : tie.After-is-choice) where
+  abbrev unrefused : tie.Else1
+  unrefused = tried .before .before .before
+
+  abbrev listed : Bool
+  listed = tried .is-choice .result
+
+  told : is-choice (hall-in (bytes unrefused)) (choice unrefused) ≡ listed
+  told = sym (tried .is-choice .ensures (hall-in (bytes unrefused)) (columns unrefused .rows) (marks unrefused))
 
 read-hall-requires : tie.Need-read-hall-requires
 read-hall-requires c κs = search needs
@@ -79,27 +90,31 @@ returns c =
     let h = hall-refused (file t) (numbers t) n in
     opening-refused (file t) (numbers t) _ (got .ensures .refusal ∙ sym h) (ap (λ (f : Refusal). eqb (f .number) 0) h ∙ n)
 
-cast-ascends : tie.Need-cast-ascends
-cast-ascends c = omega (arith, ends (c .before) .few)
+cast-is-choice : tie.Need-cast-is-choice
+cast-is-choice c = omega (arith, ends c .few)
 
-ascends-requires : tie.Need-ascends-requires
-ascends-requires c κs = ends (c .before) .few
+is-choice-requires : tie.Need-is-choice-requires
+is-choice-requires c κs = ends (c .before .before) .few
 
 returns-2 : tie.Need-returns-2
 unfolding refusal-of refusal
-returns-2 c = let e = c .before .before .before in let tried = c .before .ascends in
-    let q = list-refused (bytes e) (choice e) (fine e) (as-choice e ∙ sym (tried .ensures) ∙ not-true (tried .result) (c .if2 .taken)) in
+returns-2 c = let tried = c .before in let e = unrefused tried in
+    let q = list-refused (bytes e) (choice e) (fine e) (told tried ∙ not-true (listed tried) (c .if2 .taken)) in
     opening-refused (bytes e) (choice e) _ (sym q) (ap (λ (f : Refusal). eqb (f .number) 0) q)
 
 flags-requires : tie.Need-flags-requires
-flags-requires c κs = let e = c .before .before .before in let tried = c .before .ascends in
-    ascends-wider 1 (hall-read e .count) 256 (choice e) (ends e .few) (sym (tried .ensures) ∙ not-false (tried .result) (c .if2 .left))
+flags-requires c κs = let tried = c .before in let e = unrefused tried in let h = hall-in (bytes e) in
+    ascends-wider 1 (count h) 256 (choice e) (omega (arith, columns e .rows, ends e .few)) (choice-ascends h (choice e) (told tried ∙ not-false (listed tried) (c .if2 .left)))
 
 returns-3 : tie.Need-returns-3
-unfolding refusal-of
-returns-3 c = let e = c .before .before .before .before in let tried = c .before .before .ascends in
-    let q = none-refused (bytes e) (choice e) (fine e) (as-choice e ∙ sym (tried .ensures) ∙ not-false (tried .result) (c .before .if2 .left)) in
-    record { refusal = sym q; hall = λ z. is-record e; flags = λ z i l u. row-flags (c .flags .result) (choice e) 256 (omega arith) (c .flags .ensures .1) i l (omega (arith, columns e .rows, ends e .few)) }
+returns-3 c = let tried = c .before .before in let e = unrefused tried in let reading = at-reading (tested e) .read-hall in
+    let none = kind-none (reading .result .refusal) (ap (λ (f : Refusal). eqb (f .number) 0) (reading .ensures .refusal) ∙ fine e) in
+    let q = none-refused (bytes e) (choice e) (fine e) (told tried ∙ not-false (listed tried) (c .before .if2 .left)) in
+    record {
+      refusal = none ∙ sym q;
+      hall = λ z. is-record e;
+      flags = λ z i l u. row-flags (c .flags .result) (choice e) 256 (omega arith) (c .flags .ensures .1) i l (omega (arith, columns e .rows, ends e .few));
+    }
 
 pub open-choice-spec : {M : Type 1} → statement M
 open-choice-spec =
@@ -108,8 +123,8 @@ open-choice-spec =
     read-hall-requires
     is-none-requires
     returns
-    cast-ascends
-    ascends-requires
+    cast-is-choice
+    is-choice-requires
     returns-2
     flags-requires
     returns-3)
