@@ -3,11 +3,13 @@
  * A list is a pointer, never NULL, and the number of its places, which may be 0. What a call may write overlaps nothing else
  * that it is lent. Junction j counts 2^(j - 1) in a junction set; rows and junctions count from 1.
  *
- * Every call gives back the refusal's number, 1 to 10 without 7, or 0 for none. The reply holds the same number, the
+ * Every call gives back the refusal's number, 1 to 10 without 7, or 15, or 0 for none. The reply holds the same number, the
  * refusal's row (0 where its kind carries none) and the results, which are 0 after a refusal; all its places are written.
  * Lists are written only where the number is 0, and then only in their first places, as many as the reply says.
  *
  * A row from a junction to itself is a row as any other: it has its number and may be chosen. No plan opens it.
+ * A fixed row has its number too, but may not be chosen (10), and no plan opens it; a hall in which some directed cut
+ * has fixed rows only is refused with 15, by every call, before 10.
  */
 #ifndef HIMALOWEN_H
 #define HIMALOWEN_H
