@@ -10,7 +10,7 @@ use Rattle.hall.specs.Hall.{Hall, count, is-choice, ascends-from}
 use Rattle.hall.specs.File.{Refusal, refusal}
 use Rattle.hall.specs.Plan.{Cut}
 use Rattle.hallfile.specs.declared.HallRecord.{HallRecord}
-use Rattle.dicuts.proofs.Choices.{ascends-low, ascends-high, ascends-rest}
+use Rattle.dicuts.proofs.Choices.{ascends-low, ascends-high, ascends-rest, choice-ascends}
 use Rattle.lines.specs.Placed.{text}
 use Rattle.lines.specs.Lines.{newline, one, number-line, pair-line, cut-line, level-item}
 use Rattle.printing.specs.Printed.{hall-word, open-word, total-word, cuts-word, levels-word, refused-word, each, row-line, choice-lines, cut-lines, levels-line, printed-plan, printed-refusal}
@@ -24,8 +24,7 @@ ascends-few a l (i ∷ is) h e =
 
 -- a choice has at most as many rows as the hall
 pub choice-few : (r : HallRecord) (ns : List ℕ) → is-choice (hall-of r) ns ≡ true → length ns ≤ r .count
-unfolding is-choice
-choice-few r ns e = omega (arith, hall-count r, ascends-few 1 (count (hall-of r)) ns (omega arith) e)
+choice-few r ns e = omega (arith, hall-count r, ascends-few 1 (count (hall-of r)) ns (omega arith) (choice-ascends (hall-of r) ns e))
 
 pub choice-parts : (h : Hall) (c : List ℕ) → choice-lines h c ≡ text (number-line (79 ∷ 80 ∷ 69 ∷ 78 ∷ 32 ∷ []) (length c) ∷ each (row-line h) c ∷ [])
 unfolding choice-lines open-word

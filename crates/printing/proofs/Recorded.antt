@@ -1,6 +1,6 @@
 -- The rows of the hall of a record stand in its columns; the cuts of two lists stand side by side; the hall of the record of a hall is the hall. Assumes nothing.
-use mathlib.Core.Path.{_≡_, refl, sym, ap, ap₂, _∙_}
-use mathlib.Core.Bool.{true}
+use mathlib.Core.Path.{_≡_, refl, ap, _∙_}
+use mathlib.Core.Bool.{Bool, true, false}
 use mathlib.Core.List.{List, [], _∷_}
 use Prim.Native.Nat.{ℕ, zero, suc, _+_, _-_, _≤_, _<_}
 use native.Mathlib.Omega.{arith}
@@ -8,53 +8,54 @@ use lib.ListN.{length, getD}
 use lib.Seq.{ext-getD}
 use Rattle.hall.specs.Hall.{Row, Hall, row-of, hall, row, count, is-choice}
 use Rattle.hall.specs.Plan.{Cut, cut}
+use Rattle.dicuts.proofs.Choices.{choice-ascends}
 use Rattle.hallfile.specs.declared.HallRecord.{HallRecord}
-use Rattle.columns.specs.Columns.{Columns}
 use Rattle.hallfile.specs.Record.{record-of}
-use Rattle.hallfile.proofs.Records.{record-columns, record-prices}
+use Rattle.hallfile.proofs.Columns.{column-at}
 use Rattle.choice.proofs.Ascent.{ascends-at}
 use Rattle.lines.specs.Lines.{four-line}
 use Rattle.printing.specs.Printed.{row-line}
-use Rattle.printing.specs.Recorded.{rows-from, hall-of, paired}
+use Rattle.printing.specs.Recorded.{row-in-columns, rows-from, hall-of, paired}
 
-rows-length : (t h p : List ℕ) (i k : ℕ) → length (rows-from t h p i k) ≡ k
-unfolding rows-from
-rows-length t h p i zero = refl
-rows-length t h p i (suc k) = ap suc (rows-length t h p (suc i) k)
+module _ (t h p : List ℕ) (x : List Bool) where
+  rows-length : (i k : ℕ) → length (rows-from t h p x i k) ≡ k
+  unfolding rows-from
+  rows-length i zero = refl
+  rows-length i (suc k) = ap suc (rows-length (suc i) k)
 
-rows-at : (t h p : List ℕ) (d : Row) (i k j : ℕ) → j < k → getD (rows-from t h p i k) j d ≡ row-of (getD t (i + j) 0) (getD h (i + j) 0) (getD p (i + j) 0)
-unfolding rows-from
-rows-at t h p d i zero j l = absurd (omega arith)
-rows-at t h p d i (suc k) zero l = let e : i ≡ i + 0 = omega arith in ap (λ (m : ℕ). row-of (getD t m 0) (getD h m 0) (getD p m 0)) e
-rows-at t h p d i (suc k) (suc j) l =
-    let e : suc i + j ≡ i + suc j = omega arith in
-    rows-at t h p d (suc i) k j (omega arith) ∙ ap (λ (m : ℕ). row-of (getD t m 0) (getD h m 0) (getD p m 0)) e
+  rows-at : (d : Row) (i k j : ℕ) → j < k → getD (rows-from t h p x i k) j d ≡ row-in-columns t h p x (i + j)
+  unfolding rows-from
+  rows-at d i zero j l = absurd (omega arith)
+  rows-at d i (suc k) zero l = let e : i ≡ i + 0 = omega arith in ap (row-in-columns t h p x) e
+  rows-at d i (suc k) (suc j) l = let e : suc i + j ≡ i + suc j = omega arith in rows-at d (suc i) k j (omega arith) ∙ ap (row-in-columns t h p x) e
 
 module _ (r : HallRecord) where
+  -- the row at a place of the record
+  abbrev place-row : ℕ → Row
+  place-row = row-in-columns (r .tails) (r .heads) (r .prices) (r .fixed)
+
   pub hall-count : count (hall-of r) ≡ r .count
   unfolding hall-of hall count
-  hall-count = rows-length (r .tails) (r .heads) (r .prices) 0 (r .count)
+  hall-count = rows-length (r .tails) (r .heads) (r .prices) (r .fixed) 0 (r .count)
 
   pub hall-junctions : hall-of r .n ≡ r .n
   unfolding hall-of hall
   hall-junctions = refl
 
-  pub hall-row : (i : ℕ) → 1 ≤ i → i ≤ r .count → row (hall-of r) i ≡ row-of (getD (r .tails) (i - 1) 0) (getD (r .heads) (i - 1) 0) (getD (r .prices) (i - 1) 0)
-  unfolding hall-of hall row
-  hall-row i low high =
-      let e : 0 + (i - 1) ≡ i - 1 = omega arith in
-      rows-at (r .tails) (r .heads) (r .prices) (row-of 0 0 0) 0 (r .count) (i - 1) (omega arith)
-      ∙ ap (λ (m : ℕ). row-of (getD (r .tails) m 0) (getD (r .heads) m 0) (getD (r .prices) m 0)) e
+  hall-place : (k : ℕ) → k < r .count → getD (hall-of r .rows) k (row-of 0 0 0) ≡ place-row k
+  unfolding hall-of hall
+  hall-place k less =
+      let e : 0 + k ≡ k = omega arith in
+      rows-at (r .tails) (r .heads) (r .prices) (r .fixed) (row-of 0 0 0) 0 (r .count) k less ∙ ap place-row e
 
   -- the line of a row, from its columns
   pub row-line-is : (i : ℕ) → 1 ≤ i → i ≤ r .count → row-line (hall-of r) i ≡ four-line i (getD (r .tails) (i - 1) 0) (getD (r .heads) (i - 1) 0) (getD (r .prices) (i - 1) 0)
-  unfolding row-line row-of
-  row-line-is i low high = ap (λ (x : Row). four-line i (x .from) (x .to) (x .price)) (hall-row i low high)
+  unfolding row-line row row-in-columns
+  row-line-is i low high = ap (λ (x : Row). four-line i (x .from) (x .to) (x .price)) (hall-place (i - 1) (omega arith))
 
   -- a choice of the hall has numbers of the record's rows
   pub choice-at : (ns : List ℕ) (k : ℕ) → is-choice (hall-of r) ns ≡ true → k < length ns → (1 ≤ getD ns k 0) × (getD ns k 0 ≤ r .count)
-  unfolding is-choice
-  choice-at ns k e l = let w = ascends-at 1 (count (hall-of r)) ns k e l in (w .0, omega (arith, w .1, hall-count))
+  choice-at ns k e l = let w = ascends-at 1 (count (hall-of r)) ns k (choice-ascends (hall-of r) ns e) l in (w .0, omega (arith, w .1, hall-count))
 
 pub cuts-length : (ss ws : List ℕ) → length ss ≡ length ws → length (paired ss ws) ≡ length ss
 unfolding paired
@@ -69,29 +70,32 @@ cuts-at (s ∷ ss) [] d i e l = absurd (omega arith)
 cuts-at (s ∷ ss) (w ∷ ws) d zero e l = refl
 cuts-at (s ∷ ss) (w ∷ ws) d (suc i) e l = cuts-at ss ws d i (omega arith) (omega arith)
 
-row-parts : (h : Hall) (k : ℕ) → getD (h .rows) k (row-of 0 0 0) ≡ row-of (row h (suc k) .from) (row h (suc k) .to) (row h (suc k) .price)
-unfolding row row-of
-row-parts h k = let e : k ≡ suc k - 1 = omega arith in ap (λ (m : ℕ). getD (h .rows) m (row-of 0 0 0)) e
-
 -- the hall of the record of a hall is the hall
-pub hall-of-record : (h : Hall) → count h ≤ 256 → hall-of (record-of h) ≡ h
-unfolding hall-of hall count
-hall-of-record h few = ap₂ (λ (n : ℕ) (rs : List Row). hall n rs) (sym (cols .junctions)) (ext-getD (row-of 0 0 0) _ (h .rows) size same)
-  where
-    cols : Columns h (record-of h .n) (record-of h .count) (record-of h .tails) (record-of h .heads)
-    cols = record-columns h few (record-of h) refl
+module _ (h : Hall) (few : count h ≤ 256) where
+  record-count : record-of h .count ≡ count h
+  unfolding record-of
+  record-count = refl
 
-    all : List Row
-    all = rows-from (record-of h .tails) (record-of h .heads) (record-of h .prices) 0 (record-of h .count)
+  record-row : (k : ℕ) → k < count h → place-row (record-of h) k ≡ getD (h .rows) k (row-of 0 0 0)
+  unfolding row-in-columns record-of count
+  record-row k l =
+      let none = row-of 0 0 0 in
+      let small : k < 256 = omega arith in
+      rw (
+        column-at 0 (λ r. r .from) (h .rows) k none l small,
+        column-at 0 (λ r. r .to) (h .rows) k none l small,
+        column-at 0 (λ r. r .price) (h .rows) k none l small,
+        column-at false (λ r. r .fixed) (h .rows) k none l small,
+      ) refl
 
-    size : length all ≡ length (h .rows)
-    size = rows-length (record-of h .tails) (record-of h .heads) (record-of h .prices) 0 (record-of h .count) ∙ sym (cols .rows)
+  record-rows : hall-of (record-of h) .rows ≡ h .rows
+  unfolding count
+  record-rows =
+      ext-getD (row-of 0 0 0) (hall-of (record-of h) .rows) (h .rows) (hall-count (record-of h) ∙ record-count)
+      (λ k l.
+      let less : k < count h = omega (arith, hall-count (record-of h), record-count) in
+      hall-place (record-of h) k (omega (arith, record-count)) ∙ record-row k less)
 
-    same : (k : ℕ) → k < length all → getD all k (row-of 0 0 0) ≡ getD (h .rows) k (row-of 0 0 0)
-    same k l =
-        let less : k < record-of h .count = omega (arith, rows-length (record-of h .tails) (record-of h .heads) (record-of h .prices) 0 (record-of h .count)) in
-        let place : suc k - 1 ≡ 0 + k = omega arith in
-        let from : getD (record-of h .tails) (0 + k) 0 ≡ row h (suc k) .from = rw place at (cols .tail (suc k) (omega arith) (omega arith)) in
-        let to : getD (record-of h .heads) (0 + k) 0 ≡ row h (suc k) .to = rw place at (cols .head (suc k) (omega arith) (omega arith)) in
-        let price : getD (record-of h .prices) (0 + k) 0 ≡ row h (suc k) .price = rw place at (record-prices h few (record-of h) refl (suc k) (omega arith) (omega (arith, cols .rows))) in
-        rows-at (record-of h .tails) (record-of h .heads) (record-of h .prices) (row-of 0 0 0) 0 (record-of h .count) k less ∙ rw (from, to, price) (sym (row-parts h k))
+  pub hall-of-record : hall-of (record-of h) ≡ h
+  unfolding hall-of hall record-of
+  hall-of-record = ap (hall (h .n)) record-rows

@@ -4,7 +4,7 @@ use mathlib.Core.List.{List, [], _∷_}
 use Prim.Native.Nat.{ℕ}
 use lib.IntN.{pos, negsuc}
 use Rattle.hall.specs.Hall.{hall, row-of, row, count}
-use Rattle.hall.specs.File.{value, field, blocks, offset, long-of, rows-at, all-rows, hall-in}
+use Rattle.hall.specs.File.{value, field, blocks, offset, long-of, row-in, rows-at, all-rows, hall-in}
 use Rattle.hall.specs.Plan.{Cut, total, level-sum, difference, levels-from, levels}
 use Rattle.junctions.specs.Sets.{holds}
 use Rattle.lines.specs.Placed.{text}
@@ -34,7 +34,7 @@ pub sample-printed : printed-plan (hall-in file) choice (total (hall-in file) ch
     ∷ 49 ∷ 32 ∷ 51 ∷ 10
     ∷ 51 ∷ 32 ∷ 50 ∷ 32 ∷ 51 ∷ 10
     ∷ 76 ∷ 69 ∷ 86 ∷ 69 ∷ 76 ∷ 83 ∷ 32 ∷ 48 ∷ 32 ∷ 51 ∷ 32 ∷ 52 ∷ 10 ∷ []
-unfolding hall-word open-word total-word cuts-word levels-word digits decimal level-text text item each number-line pair-line four-line row-line set-text cut-line level-item levels-line choice-lines cut-lines printed-plan row row-of count holds hall hall-in field value blocks offset long-of rows-at all-rows total level-sum difference levels-from levels
+unfolding hall-word open-word total-word cuts-word levels-word digits decimal level-text text item each number-line pair-line four-line row-line set-text cut-line level-item levels-line choice-lines cut-lines printed-plan row row-of count holds hall hall-in field value blocks offset long-of row-in rows-at all-rows total level-sum difference levels-from levels
 sample-printed = refl
 
 -- `REFUSED 9 0`
