@@ -182,7 +182,7 @@ fixed =
     ∷ drawn half-open (unchosen (1 ∷ []))
     ∷ drawn half-open (unchosen (1 ∷ 2 ∷ []))
     ∷ drawn half-open (misses [] (junctions-of (2 ∷ [])))
-    ∷ drawn (hall 3 (fixed-row 1 2 ∷ row-of 2 3 1 ∷ row-of 1 3 4 ∷ [])) (opens (3 ∷ []) 4 (cut (junctions-of (2 ∷ 3 ∷ [])) 4 ∷ []) (pos 0 ∷ pos 4 ∷ pos 4 ∷ []))
+    ∷ drawn (hall 3 (fixed-row 1 2 ∷ row-of 2 3 1 ∷ row-of 1 3 4 ∷ [])) (opens (3 ∷ []) 4 (cut (junctions-of (3 ∷ [])) 1 ∷ cut (junctions-of (2 ∷ 3 ∷ [])) 3 ∷ []) (pos 0 ∷ pos 3 ∷ pos 4 ∷ []))
     ∷ drawn (hall 2 (row-of 1 2 1000000 ∷ [])) (opens (1 ∷ []) 1000000 (cut (junctions-of (2 ∷ [])) 1000000 ∷ []) (pos 0 ∷ pos 1000000 ∷ []))
     ∷ drawn (hall 2 (row-of 1 2 1000001 ∷ [])) (refused 8 1)
     ∷ drawn (hall 2 (row-of 1 2 4294967294 ∷ [])) (refused 8 1)
