@@ -1,7 +1,7 @@
 //! What each call must answer, by the oracle. Each test gives back what differs, or nothing.
 
 use halls::Random;
-use oracle::Claim;
+use oracle::{Claim, Hall};
 
 use crate::{Lists, Planned, Planner};
 
@@ -18,35 +18,48 @@ fn same<T: PartialEq + std::fmt::Debug>(what: &str, given: T, expected: T) -> Ou
 /// Check and tight neighbourhoods on a few choices, and on lists that are no choice.
 pub fn check_and_tight(planner: &Planner, file: &[u8], seed: u64) -> Outcome {
     let mut random = Random::new(seed);
-    let count = oracle::hall_in(file).map_or(3, |hall| hall.rows.len()) as u32;
-    let all: Vec<u32> = (1..=count).collect();
-    let mut choices = vec![vec![], all.clone(), vec![0], vec![count + 1], vec![1, 1], vec![2, 1]];
-    for keep in 1..=3 {
-        choices.push(all.iter().copied().filter(|_| random.below(4) < keep).collect());
+    let lists = match oracle::hall_in(file) {
+        Ok(hall) => lists_for(&hall, &mut random),
+        Err(_) => vec![vec![], vec![1, 2, 3], vec![0], vec![4], vec![1, 1], vec![2, 1]],
+    };
+    for list in &lists {
+        same("check", (planner.check)(file, list), oracle::check(file, list))?;
     }
-    choices.push(spared(file, all, &mut random));
-    for choice in &choices {
-        same("check", (planner.check)(file, choice), oracle::check(file, choice))?;
-    }
-    for choice in choices.iter().skip(1).step_by(2).chain(choices.last()) {
+    for list in lists.iter().skip(1).step_by(2).chain(lists.last()) {
         for junction in [0, 1, random.within(1, 65) as u32, random.within(1, 6) as u32, u32::MAX] {
-            tight(planner, file, choice, junction)?;
+            tight(planner, file, list, junction)?;
         }
     }
     Ok(())
 }
 
-/// A joining choice that can spare few rows, for files that hold a hall.
-fn spared(file: &[u8], mut choice: Vec<u32>, random: &mut Random) -> Vec<u32> {
-    for _ in 0..choice.len() {
-        let at = random.below(choice.len());
-        let mut rest = choice.clone();
-        rest.remove(at);
-        if oracle::check(file, &rest)[2] == 1 {
-            choice = rest;
+/// Choices of a hall, the last of which joins and can spare no row, and lists that are no choice.
+fn lists_for(hall: &Hall, random: &mut Random) -> Vec<Vec<u32>> {
+    let count = hall.rows.len() as u32;
+    let unfixed = oracle::unfixed(hall);
+    let mut lists = vec![vec![], unfixed.clone(), vec![0], vec![count + 1], vec![1, 1], vec![2, 1]];
+    for keep in 1..=3 {
+        lists.push(unfixed.iter().copied().filter(|_| random.below(4) < keep).collect());
+    }
+    let fixed: Vec<u32> = (1..=count).filter(|i| !unfixed.contains(i)).collect();
+    for &row in fixed.first().into_iter().chain(fixed.last()) {
+        lists.push((1..=count).filter(|&i| i == row || unfixed.contains(&i)).collect());
+        lists.push(vec![row]);
+    }
+    lists.push(spared(hall, unfixed, random));
+    lists
+}
+
+/// Without each row in turn, in any order, that the others can spare.
+fn spared(hall: &Hall, choice: Vec<u32>, random: &mut Random) -> Vec<u32> {
+    let mut kept = choice.clone();
+    for row in random.shuffled(choice) {
+        let rest: Vec<u32> = kept.iter().copied().filter(|&i| i != row).collect();
+        if oracle::missed(hall, &rest).is_none() {
+            kept = rest;
         }
     }
-    choice
+    kept
 }
 
 /// By two paths in every hall, and by all tight shores where there are few junctions.

@@ -2,7 +2,10 @@
 //! `compare [TIMES]` tries so many times as many random halls.
 
 use compare::{check_and_tight, first_plan, plan, planners, short_lists, small_plan, Planner};
-use halls::{all_halls, damaged, full_hall, looped_hall, random_files, random_hall, sized_files, starred, Kind, KINDS};
+use halls::{
+    all_halls, damaged, fixed_hall, fixed_halls, full_hall, large_fixed_halls, looped_hall, random_files, random_hall,
+    sized_files, starred, Kind, KINDS,
+};
 
 type Test = fn(&Planner, &[u8], u64) -> Result<(), String>;
 
@@ -39,9 +42,13 @@ fn of_kinds(draw: Draw, n: usize, seeds: u64) -> impl Iterator<Item = Vec<u8>> {
 }
 
 fn suites(times: u64) -> Vec<Suite> {
+    let too_short = starred().into_iter().chain(fixed_halls()).chain([vec![]]);
     let mut suites = vec![
         suite("halls of the scope", starred().into_iter(), ALL_OF_SMALL),
-        suite("lists that are too short", starred().into_iter().chain([vec![]]), |p, file, _| short_lists(p, file)),
+        suite("halls with fixed rows, drawn by hand", fixed_halls().into_iter(), ALL_OF_SMALL),
+        suite("large halls with fixed rows, drawn by hand", large_fixed_halls().into_iter(), ALL),
+        suite("first choices, large halls with fixed rows", large_fixed_halls().into_iter(), FIRST_PLAN),
+        suite("lists that are too short", too_short, |planner, file, _| short_lists(planner, file)),
         suite("halls and files at the limits", sized_files().into_iter(), ALL),
         suite("damaged files", (0..40).flat_map(|seed| damaged(&random_hall(6, 10, seed), seed)), ALL),
         suite("random files of every length", random_files(2_500, 7), ALL),
@@ -49,11 +56,11 @@ fn suites(times: u64) -> Vec<Suite> {
     for (n, rows, prices) in
         [(1, 0, 1), (1, 1, 4), (1, 3, 3), (2, 0, 1), (2, 1, 4), (2, 2, 4), (2, 3, 4), (3, 2, 3), (3, 3, 3), (4, 3, 2)]
     {
-        let what = format!("all halls: {n} junctions, {rows} rows, prices below {prices}");
+        let what = format!("all halls: {n} junctions, {rows} rows, fixed or below {prices}");
         suites.push(suite(what, all_halls(n, rows, prices), ALL_OF_SMALL));
     }
-    for (n, rows, prices) in [(3, 4, 3), (3, 5, 2), (4, 4, 2)] {
-        let what = format!("plans of all halls: {n} junctions, {rows} rows, prices below {prices}");
+    for (n, rows, prices) in [(3, 4, 3), (3, 5, 1), (4, 4, 1)] {
+        let what = format!("plans of all halls: {n} junctions, {rows} rows, fixed or below {prices}");
         suites.push(suite(what, all_halls(n, rows, prices), PLAN_OF_SMALL));
     }
     for (n, rows, count) in [(6, 10, 40_000), (8, 16, 1_000), (8, 32, 1_000), (12, 30, 1_000)] {
@@ -65,7 +72,12 @@ fn suites(times: u64) -> Vec<Suite> {
         suites.push(suite(format!("certificates of halls up to {n} junctions and {rows} rows"), files(count), PLAN));
         suites.push(suite(format!("first choices, up to {n} junctions and {rows} rows"), files(fewer), FIRST_PLAN));
     }
-    for (what, draw) in [("full halls", full_hall as Draw), ("full halls with loops", looped_hall)] {
+    let drawn = [
+        ("full halls", full_hall as Draw),
+        ("full halls with loops", looped_hall),
+        ("full halls with fixed rows", fixed_hall),
+    ];
+    for (what, draw) in drawn {
         suites.push(suite(format!("{what}, 8 junctions"), of_kinds(draw, 8, 12 * times), ALL_OF_SMALL));
         for n in [16, 32, 64] {
             suites.push(suite(format!("{what}, {n} junctions"), of_kinds(draw, n, 12 * times), ALL));

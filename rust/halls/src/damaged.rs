@@ -1,6 +1,6 @@
 //! Files that are no halls, or nearly: cut short, changed in a byte or a field, or random.
 
-use crate::{hall_file, Random, Row};
+use crate::{hall_file, Random, Row, FIXED};
 
 /// A hall file cut at every length, with each byte changed, and with each of its fields set to a telling number.
 pub fn damaged(file: &[u8], seed: u64) -> Vec<Vec<u8>> {
@@ -14,7 +14,7 @@ pub fn damaged(file: &[u8], seed: u64) -> Vec<Vec<u8>> {
         }
     }
     for at in (0..file.len().saturating_sub(3)).step_by(4) {
-        for number in [0, 1, 7, 8, 64, 65, 257, 1_000_000, 1_000_001, 0x8000_0000, 0xFFFF_FFF8, u32::MAX] {
+        for number in [0, 1, 7, 8, 64, 65, 257, 1_000_000, 1_000_001, 0x8000_0000, 0xFFFF_FFF8, 0xFFFF_FFFE, u32::MAX] {
             let mut changed = file.to_vec();
             changed[at..at + 4].copy_from_slice(&u32::to_le_bytes(number));
             files.push(changed);
@@ -46,13 +46,16 @@ fn headed(random: &mut Random, size: usize) -> Vec<u8> {
     }
     while bytes.len() < size {
         let end = |random: &mut Random| if random.below(40) == 0 { random.byte() } else { random.within(1, n) as u8 };
-        bytes.extend([end(random), 0, end(random), 0, random.byte(), random.byte(), random.below(17) as u8, 0]);
+        bytes.extend([end(random), 0, end(random), 0]);
+        let price = random.below(17 << 16) as u32;
+        let field = if random.below(8) == 0 { FIXED } else { price };
+        bytes.extend(field.to_le_bytes());
     }
     bytes.truncate(size);
     bytes
 }
 
-/// Halls at the limits of junctions, rows, prices and file length.
+/// Halls at the limits of junctions, rows, prices and file length, some of fixed rows only.
 pub fn sized_files() -> Vec<Vec<u8>> {
     let path = |n: u16, count: usize, price: u32| -> Vec<Row> {
         (0..count).map(|i| (i as u16 % (n - 1) + 1, i as u16 % (n - 1) + 2, price)).collect()
@@ -71,6 +74,10 @@ pub fn sized_files() -> Vec<Vec<u8>> {
         hall_file(64, &path(64, 257, 1_000_000)),
         hall_file(2, &path(2, 256, 1_000_001)),
         hall_file(2, &path(2, 256, 1_000_000)),
+        hall_file(2, &path(2, 256, FIXED - 1)),
+        hall_file(2, &path(2, 256, FIXED)),
+        hall_file(64, &path(64, 63, FIXED)),
+        hall_file(64, &path(64, 62, FIXED)),
         padded(65_535),
         padded(65_536),
         padded(65_537),

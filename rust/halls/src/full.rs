@@ -1,6 +1,6 @@
 //! Halls in one piece of n junctions and 4n rows, of five kinds.
 
-use crate::{hall_file, Random, Row};
+use crate::{hall_file, Random, Row, FIXED};
 
 #[derive(Clone, Copy, Debug, PartialEq, Eq)]
 pub enum Kind {
@@ -32,33 +32,43 @@ impl Kind {
 
 /// The hall file; n is a power of 2 from 8 to 64. Seeds go round through dear prices, few prices and one price.
 pub fn full_hall(kind: Kind, n: usize, seed: u64) -> Vec<u8> {
-    drawn(kind, n, seed, further)
+    drawn(kind, n, seed, further, [0, 0])
 }
 
 /// The same with loops: one in four of the rows beyond those that make the hall one piece.
 pub fn looped_hall(kind: Kind, n: usize, seed: u64) -> Vec<u8> {
-    drawn(kind, n, seed, |kind, n, random| match random.below(4) {
+    let more: More = |kind, n, random| match random.below(4) {
         0 => {
             let j = random.below(n);
             (j, j)
         }
         _ => further(kind, n, random),
-    })
+    };
+    drawn(kind, n, seed, more, [0, 0])
 }
 
-fn drawn(kind: Kind, n: usize, seed: u64, more: fn(Kind, usize, &mut Random) -> (usize, usize)) -> Vec<u8> {
+/// The same with fixed rows: few, half or all of the rows beyond those that make the hall one piece, or few of all rows.
+pub fn fixed_hall(kind: Kind, n: usize, seed: u64) -> Vec<u8> {
+    let shares = [[0, 2], [0, 8], [0, 16], [2, 8]];
+    drawn(kind, n, seed, further, shares[(seed / 3 % 4) as usize])
+}
+
+type More = fn(Kind, usize, &mut Random) -> (usize, usize);
+
+/// Of the rows that make the hall one piece, and of the others, so many in sixteen are fixed.
+fn drawn(kind: Kind, n: usize, seed: u64, more: More, fixed_of_16: [usize; 2]) -> Vec<u8> {
     let mut random = Random::new(seed * 64 + n as u64);
     let most = [1_000_000, 9, 1][(seed % 3) as usize];
     let least = if most == 1 { 1 } else { 0 };
-    let mut ends = frame(kind, n, &mut random);
-    while ends.len() < 4 * n {
-        ends.push(more(kind, n, &mut random));
-    }
-    for i in (1..ends.len()).rev() {
-        ends.swap(i, random.below(i + 1));
-    }
-    let row = |&(a, b): &(usize, usize)| (a as u16 + 1, b as u16 + 1, random.within(least, most) as u32);
-    hall_file(n as u16, &ends.iter().map(row).collect::<Vec<Row>>())
+    let frame = frame(kind, n, &mut random);
+    let others: Vec<(usize, usize)> = (frame.len()..4 * n).map(|_| more(kind, n, &mut random)).collect();
+    let shared = |(ends, share): (Vec<_>, _)| ends.into_iter().map(move |(a, b)| (a, b, share));
+    let lanes = random.shuffled([frame, others].into_iter().zip(fixed_of_16).flat_map(shared).collect());
+    let prices: Vec<u32> = lanes.iter().map(|_| random.within(least, most) as u32).collect();
+    let row = |((a, b, share), price): ((usize, usize, usize), u32)| {
+        (a as u16 + 1, b as u16 + 1, if random.below(16) < share { FIXED } else { price })
+    };
+    hall_file(n as u16, &lanes.into_iter().zip(prices).map(row).collect::<Vec<Row>>())
 }
 
 /// Rows, junctions counted from 0, that make the hall one piece.

@@ -1,17 +1,22 @@
 //! Hall files to try planners on. All are made from fixed seeds, so that every run tries the same.
 
 mod damaged;
+mod fixed;
 mod full;
 mod random;
 mod small;
 
 pub use damaged::{damaged, random_files, sized_files};
-pub use full::{full_hall, looped_hall, Kind, KINDS};
+pub use fixed::{fixed_halls, large_fixed_halls};
+pub use full::{fixed_hall, full_hall, looped_hall, Kind, KINDS};
 pub use random::Random;
 pub use small::{all_halls, random_hall, starred};
 
-/// From, to, price.
+/// From, to, price field.
 pub type Row = (u16, u16, u32);
+
+/// The price field of a fixed row.
+pub const FIXED: u32 = u32::MAX;
 
 pub fn row_bytes(row: &Row) -> [u8; 8] {
     let mut bytes = [0; 8];

@@ -29,6 +29,13 @@ impl Random {
         choices[self.below(choices.len())]
     }
 
+    pub fn shuffled<T>(&mut self, mut items: Vec<T>) -> Vec<T> {
+        for i in (1..items.len()).rev() {
+            items.swap(i, self.below(i + 1));
+        }
+        items
+    }
+
     pub fn byte(&mut self) -> u8 {
         self.word() as u8
     }

@@ -10,7 +10,7 @@ pub const ROW_PLACES: usize = 256;
 pub const CUT_PLACES: usize = 125;
 pub const LEVEL_PLACES: usize = 64;
 
-/// Why a call was turned back: 1 to 10 without 7, and the row for 6 and 8, else 0.
+/// Why a call was turned back: 1 to 10 without 7, or 15, and the row for 6 and 8, else 0.
 #[derive(Clone, Copy, Debug, PartialEq, Eq)]
 pub struct Refusal {
     pub number: u32,
@@ -58,7 +58,7 @@ pub struct Plan {
     pub total: u32,
 }
 
-/// Whether the chosen rows, ascending, join the hall.
+/// Whether the chosen rows, ascending and none of them fixed, join the hall.
 pub fn check(file: &[u8], choice: &[u32]) -> Result<Finding, Refusal> {
     finding(boundary::check(file, choice))
 }

@@ -35,7 +35,10 @@ pub fn faults(hall: &Hall, claim: &Claim) -> Vec<&'static str> {
         (claim.shores.windows(2).all(|pair| pair[0] < pair[1]), "the shores do not ascend"),
         (claim.weights.iter().all(|&weight| weight > 0), "a weight is 0"),
         (!ordered_pairs().any(|(a, b)| cross(hall, a, b)), "two shores cross"),
-        (hall.rows.iter().zip(&row_loads).all(|(row, load)| *load <= row.price), "a load is over the price"),
+        (
+            hall.rows.iter().zip(&row_loads).all(|(row, load)| row.fixed || *load <= row.price),
+            "a load is over the price",
+        ),
         (cuts.iter().map(|(_, weight)| weight).sum::<u64>() == total, "the weights do not add up to the total"),
         (
             hall.rows.iter().zip(&row_loads).enumerate().all(|(i, (row, load))| !chosen(i) || *load == row.price),

@@ -2,7 +2,8 @@
 
 use reader::{read, Refusal, Row};
 
-use crate::holds;
+use crate::small::{has_fixed_cut, SMALL};
+use crate::{holds, missed};
 
 #[derive(Clone, Debug)]
 pub struct Hall {
@@ -10,14 +11,24 @@ pub struct Hall {
     pub rows: Vec<Row>,
 }
 
-/// The hall of a file, or the first of refusals 2 to 9.
+/// The hall of a file, or the first of refusals 2 to 9 and 15.
 pub fn hall_in(file: &[u8]) -> Result<Hall, Refusal> {
     let mut rows = Vec::new();
     let n = read(file, |row| rows.push(row))?;
     if pieces(n, &rows) > 1 {
         return Err(Refusal::new(9));
     }
-    Ok(Hall { n, rows })
+    let hall = Hall { n, rows };
+    let refused = if n <= SMALL { has_fixed_cut(&hall) } else { missed(&hall, &unfixed(&hall)).is_some() };
+    if refused {
+        return Err(Refusal::new(15));
+    }
+    Ok(hall)
+}
+
+/// The numbers of the rows that are not fixed.
+pub fn unfixed(hall: &Hall) -> Vec<u32> {
+    (1..).zip(&hall.rows).filter(|(_, row)| !row.fixed).map(|(i, _)| i).collect()
 }
 
 /// How many pieces the junctions make, directions ignored: each row makes its two ends' pieces one.

@@ -10,10 +10,10 @@ mod small;
 
 pub use certificate::{faults, Claim};
 pub use first::unshown;
-pub use hall::{hall_in, Hall};
+pub use hall::{hall_in, unfixed, Hall};
 pub use list::{judge, printed, words, Listed};
 pub use reader::{Refusal, Row};
-pub use small::{first_choice, neighbourhood_by_shores};
+pub use small::{first_choice, has_fixed_cut, neighbourhood_by_shores, SMALL};
 
 use std::collections::BTreeMap;
 
@@ -61,8 +61,8 @@ pub fn missed(hall: &Hall, choice: &[u32]) -> Option<u64> {
 }
 
 fn is_choice(hall: &Hall, choice: &[u32]) -> bool {
-    let inside = choice.iter().all(|&i| 1 <= i && i as usize <= hall.rows.len());
-    inside && choice.windows(2).all(|pair| pair[0] < pair[1])
+    let unfixed = unfixed(hall);
+    choice.iter().all(|i| unfixed.contains(i)) && choice.windows(2).all(|pair| pair[0] < pair[1])
 }
 
 fn hall_and_choice(bytes: &[u8], choice: &[u32]) -> Result<Hall, Told> {

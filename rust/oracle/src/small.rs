@@ -3,6 +3,9 @@
 use crate::hall::{entering, enters, everything, is_cut, Hall};
 use crate::holds;
 
+/// Halls of up to so many junctions are tried out whole.
+pub const SMALL: u64 = 12;
+
 /// All shores of directed cuts.
 fn shores(hall: &Hall) -> Vec<u64> {
     (1..everything(hall)).filter(|&shore| is_cut(hall, shore)).collect()
@@ -16,10 +19,20 @@ pub fn neighbourhood_by_shores(hall: &Hall, choice: &[u32], v: u64) -> u64 {
         .fold(everything(hall), |around, shore| around & shore)
 }
 
+/// Some directed cut has fixed rows only.
+pub fn has_fixed_cut(hall: &Hall) -> bool {
+    shores(hall).into_iter().any(|shore| hall.rows.iter().all(|row| row.fixed || !enters(row, shore)))
+}
+
 /// The rows of each directed cut, row i as 2^(i - 1).
 fn cuts(hall: &Hall) -> Vec<u64> {
     let rows_into = |shore| (0..hall.rows.len()).filter(|&i| enters(&hall.rows[i], shore)).map(|i| 1 << i).sum();
     shores(hall).into_iter().map(rows_into).collect()
+}
+
+/// The fixed rows as such a number.
+fn fixed(hall: &Hall) -> u64 {
+    (0..hall.rows.len()).filter(|&i| hall.rows[i].fixed).map(|i| 1 << i).sum()
 }
 
 /// By total, then row count, then dictionary order.
@@ -30,9 +43,9 @@ fn rank(hall: &Hall, choice: u64) -> Rank {
     (numbers.iter().map(|&i| hall.rows[i as usize - 1].price).sum(), numbers.len(), numbers)
 }
 
-/// The first joining choice and its total, in halls of up to 64 rows: every set of rows is tried, or, of more than 16 rows,
-/// every choice that meets unmet cuts one after the other and is not yet later in rank than one already found. The first
-/// choice is among those, since it can spare no row.
+/// The first joining choice without fixed rows and its total, in halls of up to 64 rows: every set of rows is tried, or, of
+/// more than 16 rows, every choice that meets unmet cuts one after the other and is not yet later in rank than one already
+/// found. The first choice is among those, since it can spare no row.
 pub fn first_choice(hall: &Hall) -> (Vec<u32>, u64) {
     let cuts = cuts(hall);
     let (total, _, numbers) = if hall.rows.len() <= 16 { by_trying_all(hall, &cuts) } else { by_branching(hall, cuts) };
@@ -40,14 +53,17 @@ pub fn first_choice(hall: &Hall) -> (Vec<u32>, u64) {
 }
 
 fn by_trying_all(hall: &Hall, cuts: &[u64]) -> Rank {
-    let joining = (0u64..1 << hall.rows.len()).filter(|choice| cuts.iter().all(|cut| cut & choice != 0));
-    joining.map(|choice| rank(hall, choice)).min().expect("all rows join a hall in one piece")
+    let fixed = fixed(hall);
+    let choices = (0u64..1 << hall.rows.len()).filter(|choice| choice & fixed == 0);
+    let joining = choices.filter(|choice| cuts.iter().all(|cut| cut & choice != 0));
+    joining.map(|choice| rank(hall, choice)).min().expect("the unfixed rows join an accepted hall")
 }
 
 fn by_branching(hall: &Hall, mut cuts: Vec<u64>) -> Rank {
     cuts.sort_by_key(|cut| cut.count_ones());
-    let mut first = rank(hall, (0..hall.rows.len()).map(|i| 1 << i).sum());
-    branch(hall, &cuts, 0, 0, &mut first);
+    let every_row: u64 = (0..hall.rows.len()).map(|i| 1 << i).sum();
+    let mut first = rank(hall, every_row & !fixed(hall));
+    branch(hall, &cuts, 0, fixed(hall), &mut first);
     first
 }
 

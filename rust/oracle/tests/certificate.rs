@@ -3,7 +3,7 @@
 use oracle::{faults, Claim, Hall, Row};
 
 fn hall(n: u64, rows: &[(u64, u64, u64)]) -> Hall {
-    Hall { n, rows: rows.iter().map(|&(from, to, price)| Row { from, to, price }).collect() }
+    Hall { n, rows: rows.iter().map(|&(from, to, price)| Row { from, to, price, fixed: false }).collect() }
 }
 
 /// 1>2:3, 2>3:1, 1>3:4, whose plan opens row 3.
@@ -41,6 +41,18 @@ fn each_fault_is_found() {
     for (fault, claim) in claims {
         assert!(faults(&printed(), &claim).contains(&fault), "{fault}");
     }
+}
+
+#[test]
+fn fixed_rows_bear_any_load_and_are_in_no_choice() {
+    let mut shortcut = printed();
+    shortcut.rows[2] = Row { from: 1, to: 3, price: 0, fixed: true };
+    let right = Claim { rows: &[1, 2], ..RIGHT };
+    assert!(faults(&shortcut, &right).is_empty());
+    assert_eq!(faults(&shortcut, &RIGHT), ["the rows are no choice"]);
+    assert_eq!(faults(&shortcut, &Claim { rows: &[1, 2, 3], ..right }), ["the rows are no choice"]);
+    shortcut.rows[2].fixed = false;
+    assert_eq!(faults(&shortcut, &right), ["a load is over the price"]);
 }
 
 #[test]

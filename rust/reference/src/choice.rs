@@ -20,25 +20,33 @@ impl<'h> Choice<'h> {
         Choice { hall, chosen: [false; 256], arcs: hall.forward, solid: hall.forward, backward: [[0; 64]; 64] }
     }
 
-    /// Refusal 10 for numbers that do not ascend or stand for no row.
+    /// Every row that is not fixed.
+    pub fn unfixed(hall: &'h Hall) -> Choice<'h> {
+        let mut choice = Choice::none(hall);
+        (0..hall.rows.len()).filter(|&i| !hall.rows[i].fixed).for_each(|i| choice.open(i));
+        choice
+    }
+
+    /// Refusal 10 for numbers that do not ascend, stand for no row or for a fixed one.
     pub fn read(hall: &'h Hall, numbers: &[u32]) -> Result<Choice<'h>, Refusal> {
         let mut choice = Choice::none(hall);
         let mut least = 1;
         for &number in numbers {
-            if (number as usize) < least || number as usize > hall.rows.len() {
+            let number = number as usize;
+            if number < least || number > hall.rows.len() || hall.rows[number - 1].fixed {
                 return Err(Refusal::new(10));
             }
-            least = number as usize + 1;
-            choice.open(number as usize - 1);
+            least = number + 1;
+            choice.open(number - 1);
         }
         Ok(choice)
     }
 
-    /// All rows, then without each in turn, dearest first, that the rest can spare.
+    /// All unfixed rows, then without each in turn, dearest first, that the rest can spare.
     pub fn thinned(hall: &'h Hall, cost: &[i64]) -> Choice<'h> {
-        let mut choice = Choice::none(hall);
-        (0..hall.rows.len()).for_each(|i| choice.open(i));
-        let mut dearest_first: Vec<usize> = (0..hall.rows.len()).rev().collect();
+        let mut choice = Choice::unfixed(hall);
+        let mut dearest_first: Vec<usize> = choice.rows().collect();
+        dearest_first.reverse();
         dearest_first.sort_by_key(|&i| std::cmp::Reverse(cost[i]));
         for i in dearest_first {
             choice.close(i);

@@ -9,6 +9,7 @@ pub struct Row {
     pub tail: usize,
     pub head: usize,
     pub price: u32,
+    pub fixed: bool,
 }
 
 pub struct Hall {
@@ -26,7 +27,8 @@ impl Hall {
     }
 
     fn put(&mut self, row: reader::Row) {
-        let row = Row { tail: row.from as usize - 1, head: row.to as usize - 1, price: row.price as u32 };
+        let (tail, head) = (row.from as usize - 1, row.to as usize - 1);
+        let row = Row { tail, head, price: row.price as u32, fixed: row.fixed };
         self.forward[row.tail] |= 1 << row.head;
         self.links[row.tail] |= 1 << row.head;
         self.links[row.head] |= 1 << row.tail;

@@ -6,7 +6,7 @@
 
 use crate::choice::Choice;
 use crate::cuts;
-use crate::hall::Hall;
+use crate::hall::{Hall, Row};
 use crate::sets::{holds, members, Arcs};
 use crate::tight::Neighbourhoods;
 
@@ -40,8 +40,12 @@ enum Search {
     Closed(u64),
 }
 
+/// What a fixed row costs: more than any choice of the others.
+const FIXED_COST: i64 = 256_000_001;
+
 pub fn plan(hall: &Hall) -> Plan {
-    let mut planner = Planner::new(hall, hall.rows.iter().map(|row| row.price.into()).collect());
+    let cost = |row: &Row| if row.fixed { FIXED_COST } else { row.price.into() };
+    let mut planner = Planner::new(hall, hall.rows.iter().map(cost).collect());
     planner.repair();
     let cuts = cuts::cuts(&mut planner);
     let levels = (0..hall.n).map(|j| (planner.potential[j] - planner.potential[0]) as i32).collect();

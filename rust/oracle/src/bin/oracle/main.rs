@@ -15,7 +15,7 @@ mod plans;
 
 use std::process::ExitCode;
 
-use oracle::{hall_in, holds, words, Told};
+use oracle::{hall_in, holds, words, Told, SMALL};
 
 const USAGE: &str = "usage: oracle read|check|tight|plan|list|judge|lines ..., as src/bin/oracle/main.rs says";
 
@@ -72,7 +72,7 @@ fn told([number, row, outcome, set]: Told) -> String {
 fn tight(file: &[u8], choice: &[u32], junction: u32) -> String {
     let reply = oracle::tight(file, choice, junction);
     match hall_in(file) {
-        Ok(hall) if hall.n <= plans::SMALL && reply[2] == 3 && reply[3] != 0 => {
+        Ok(hall) if hall.n <= SMALL && reply[2] == 3 && reply[3] != 0 => {
             let around = oracle::neighbourhood_by_shores(&hall, choice, junction.into());
             assert_eq!(reply[3], around, "two paths and every shore");
         }

@@ -1,9 +1,6 @@
 //! Plans: the plain Rust's, of which nothing is believed but what is judged right.
 
-use oracle::{hall_in, printed, words, Hall, Listed, Refusal};
-
-/// Halls of up to so many junctions are tried out whole.
-pub const SMALL: u64 = 12;
+use oracle::{hall_in, printed, words, Hall, Listed, Refusal, SMALL};
 
 pub fn judge(file: &[u8], text: &str) -> Vec<String> {
     oracle::judge(file, text, |costs| reference::cuts_at(file, costs).expect("the hall is accepted"))
