@@ -3,7 +3,7 @@
 use reader::Refusal;
 
 use crate::hall::Hall;
-use crate::sets::{holds, reached_short_of, Arcs};
+use crate::sets::{holds, missed, reached_short_of, Arcs};
 
 pub struct Choice<'h> {
     pub hall: &'h Hall,
@@ -18,13 +18,6 @@ pub struct Choice<'h> {
 impl<'h> Choice<'h> {
     pub fn none(hall: &'h Hall) -> Choice<'h> {
         Choice { hall, chosen: [false; 256], arcs: hall.forward, solid: hall.forward, backward: [[0; 64]; 64] }
-    }
-
-    /// Every row that is not fixed.
-    pub fn unfixed(hall: &'h Hall) -> Choice<'h> {
-        let mut choice = Choice::none(hall);
-        (0..hall.rows.len()).filter(|&i| !hall.rows[i].fixed).for_each(|i| choice.open(i));
-        choice
     }
 
     /// Refusal 10 for numbers that do not ascend, stand for no row or for a fixed one.
@@ -44,9 +37,9 @@ impl<'h> Choice<'h> {
 
     /// All unfixed rows, then without each in turn, dearest first, that the rest can spare.
     pub fn thinned(hall: &'h Hall, cost: &[i64]) -> Choice<'h> {
-        let mut choice = Choice::unfixed(hall);
-        let mut dearest_first: Vec<usize> = choice.rows().collect();
-        dearest_first.reverse();
+        let mut choice = Choice::none(hall);
+        let mut dearest_first: Vec<usize> = (0..hall.rows.len()).rev().filter(|&i| !hall.rows[i].fixed).collect();
+        dearest_first.iter().for_each(|&i| choice.open(i));
         dearest_first.sort_by_key(|&i| std::cmp::Reverse(cost[i]));
         for i in dearest_first {
             choice.close(i);
@@ -93,9 +86,8 @@ impl<'h> Choice<'h> {
         }
     }
 
-    /// The set reached from the lowest junction that does not reach all; a search that meets a lower one need not go on.
+    /// A shore that no chosen row enters.
     pub fn missed(&self) -> Option<u64> {
-        let found = |j| reached_short_of(&self.arcs, j, (1 << j) - 1);
-        (0..self.hall.n).filter_map(found).find(|&set| set != self.hall.all())
+        missed(&self.arcs, self.hall.n)
     }
 }

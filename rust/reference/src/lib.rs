@@ -12,7 +12,6 @@ pub use planner::Counts;
 pub use reader::Refusal;
 
 use choice::Choice;
-use hall::Hall;
 
 pub const ROW_PLACES: usize = 256;
 pub const CUT_PLACES: usize = 125;
@@ -35,18 +34,9 @@ pub struct Planned {
     pub counts: Counts,
 }
 
-/// The hall, or the first of refusals 2 to 9 and 15: all unfixed rows together have to join.
-fn hall_in(file: &[u8]) -> Result<Hall, Refusal> {
-    let hall = hall::read(file)?;
-    match Choice::unfixed(&hall).missed() {
-        Some(_) => Err(Refusal::new(15)),
-        None => Ok(hall),
-    }
-}
-
 /// Joins, or the set reached from the lowest junction that does not reach all.
 pub fn check(file: &[u8], choice: &[u32]) -> Result<Finding, Refusal> {
-    let hall = hall_in(file)?;
+    let hall = hall::read(file)?;
     let choice = Choice::read(&hall, choice)?;
     Ok(match choice.missed() {
         Some(shore) => Finding::Misses(shore),
@@ -56,7 +46,7 @@ pub fn check(file: &[u8], choice: &[u32]) -> Result<Finding, Refusal> {
 
 /// The junctions in every tight shore that holds `junction`; none for a junction outside the hall.
 pub fn tight(file: &[u8], choice: &[u32], junction: u32) -> Result<Finding, Refusal> {
-    let hall = hall_in(file)?;
+    let hall = hall::read(file)?;
     let choice = Choice::read(&hall, choice)?;
     if junction == 0 || junction as usize > hall.n {
         return Ok(Finding::Around(0));
@@ -82,7 +72,7 @@ pub fn plan_into(
     if too_short {
         return Err(Refusal::new(1));
     }
-    let hall = hall_in(file)?;
+    let hall = hall::read(file)?;
     let plan = planner::plan(&hall);
     for (place, &row) in rows.iter_mut().zip(&plan.rows) {
         *place = row as u32 + 1;
@@ -103,6 +93,6 @@ pub fn plan_into(
 
 /// Shores and weights of the cuts beside a choice of least cost, where each row has another cost than its price.
 pub fn cuts_at(file: &[u8], costs: &[u64]) -> Result<Vec<(u64, u64)>, Refusal> {
-    let hall = hall_in(file)?;
+    let hall = hall::read(file)?;
     Ok(planner::cuts_at(&hall, costs.iter().map(|&cost| cost as i64).collect()))
 }

@@ -37,6 +37,12 @@ pub fn reached(arcs: &Arcs, start: u64) -> u64 {
     seen
 }
 
+/// The set reached from the lowest of n junctions that does not reach all; a search that meets a lower one need not go on.
+pub fn missed(arcs: &Arcs, n: usize) -> Option<u64> {
+    let found = |j| reached_short_of(arcs, j, (1 << j) - 1);
+    (0..n).filter_map(found).find(|&set| set != full(n))
+}
+
 /// The set reached from `start`, or `None` as soon as it holds one of the targets.
 pub fn reached_short_of(arcs: &Arcs, start: usize, targets: u64) -> Option<u64> {
     let (mut seen, mut layer): (u64, u64) = (1 << start, 1 << start);
