@@ -4,7 +4,7 @@ use crate::{hall_file, Row, FIXED};
 
 /// Small ones: planned, refused because some directed cut has fixed rows only, and refused before that for another reason.
 pub fn fixed_halls() -> Vec<Vec<u8>> {
-    let halls: [(u16, &[Row]); 24] = [
+    let halls: [(u16, &[Row]); 25] = [
         (1, &[(1, 1, FIXED)]),
         (1, &[(1, 1, FIXED), (1, 1, 0), (1, 1, FIXED)]),
         (2, &[(1, 2, FIXED)]),
@@ -19,6 +19,7 @@ pub fn fixed_halls() -> Vec<Vec<u8>> {
         (2, &[(1, 2, FIXED), (2, 1, FIXED)]),
         (2, &[(1, 2, 5), (2, 1, FIXED)]),
         (2, &[(1, 1, FIXED), (2, 2, FIXED)]),
+        (3, &[(1, 2, FIXED), (2, 3, 1_000_001)]),
         (3, &[(1, 2, 3), (2, 3, 1), (1, 3, FIXED)]),
         (3, &[(1, 2, FIXED), (2, 3, 1), (1, 3, 4)]),
         (3, &[(1, 2, 3), (2, 3, FIXED), (1, 3, 4)]),
