@@ -133,7 +133,7 @@ pub fn start<'a>(
         );
         arcs[head] = rest;
         let dropped = leads(&arcs, head + 1, tail + 1);
-        if !dropped {
+        if !(kept & dropped) {
             left[k] = kept;
             arcs[head] = found;
         }

@@ -2,10 +2,11 @@
 -- Assumes nothing.
 use mathlib.Core.Logic.{⊎-elim}
 use mathlib.Core.Path.{_≡_, _∙_}
-use mathlib.Core.Bool.{false}
+use mathlib.Core.Bool.{false, _&&_}
 use Prim.Native.Nat.{_-_, _≤_}
 use native.Mathlib.Omega.{arith}
 use lib.ListN.{length, getD, set, length-set, replicate, getD-replicate}
+use Rattle.laws.proofs.Booleans.{and-r}
 use Rattle.hall.specs.Hall.{Hall}
 use Rattle.dicuts.specs.Shores.{Ranged, once, Joining}
 use Rattle.columns.specs.Columns.{flagged, Columns}
@@ -178,7 +179,7 @@ loop-again c =
           let sure = backed-forward (set (l .left) k false) k h (a .n) (a .m) (a .tails .now) (a .heads .now) cols (row .place-of .ensures) rg (replicate 256 false)
           (λ i less. getD-replicate 256 i false false (omega (arith, s .pre .0 .few))) (forward .result) (forward .ensures h cols) (head .result) (tail .result) (head .ensures .0) (tail .ensures .0) in
           turn-dropped (l .left) k h rg (a .n) (a .m) (a .tails .now) (a .heads .now) (s .pre .0 .size) cols (row .place-of .ensures) (l .arcs) (l .inv .1) (head .result) (tail .result) rest
-          (head .ensures .1) (head .ensures .0) (tail .ensures .0) (l .inv .3 h cols rg joins) (spared .spared-arcs .ensures h (a .n) cols sure) (led .ensures (not-false (led .result) (w .0 .left))),
+          (head .ensures .1) (head .ensures .0) (tail .ensures .0) (l .inv .3 h cols rg joins) (spared .spared-arcs .ensures h (a .n) cols sure) (led .ensures (and-r (getD (l .left) k false) (led .result) (not-false (getD (l .left) k false && led .result) (w .0 .left)))),
     ))
     (c .if1 .came)
 
