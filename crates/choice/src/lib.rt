@@ -1,4 +1,4 @@
-// Choices of rows: whether a list of numbers is one, its rows as flags, flags of rows, and which junctions do not reach all.
+// Choices of rows: whether a list of numbers is one, rows as flags, and which junctions do not reach all.
 ghost use mathlib.Core.Path.{_≡_};
 ghost use mathlib.Core.Bool.{true, false, not};
 ghost use mathlib.Core.List.{List};

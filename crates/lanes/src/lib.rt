@@ -37,7 +37,7 @@ fn plan_outline(file: &[u8], rows: &mut [u32], room: usize, levels: &mut [i32]) 
 }
 
 // The first joining choice by total, row count and dictionary order, with cuts and levels beside it: into the lent lists,
-// from the front. Refusal 1 where a list is too short, then 2 to 9.
+// from the front. Refusal 1 where a list is too short, then 2 to 9 and 15.
 pub fn plan_lanes(file: &[u8], rows: &mut [u32], cuts: &mut [Cut], levels: &mut [i32]) -> Planned
     ensures { λ r. ⌜ Lent-says (now (file .entry)) r (now (rows .entry)) (now (rows .exit)) (now (cuts .entry)) (now (cuts .exit))
         (now (levels .entry)) (now (levels .exit)) ⌝ }

@@ -1,6 +1,5 @@
 -- `hallfile::walk_refusal` gives 9 where the hall is not joined, then 15 where it does not open, or none. Assumes nothing.
 use borrow.Author.Tests.{not-true, not-false}
-use Rattle.hall.specs.File.{refusal}
 use Rattle.refusals.specs.Kinds.{refusal-of}
 use Rattle.hallfile.proofs.walk_refusal.Statement.{statement}
 use Rattle.hallfile.proofs.walk_refusal.Tie as tie
