@@ -103,7 +103,6 @@ fn main() {
     try_all(1, 5, 3);
     try_all(2, 5, 3);
     try_all(3, 4, 3);
-    try_all(3, 5, 1);
     try_all(4, 4, 2);
     try_random(200_000, 1);
 }
