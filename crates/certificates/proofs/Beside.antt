@@ -79,7 +79,7 @@ fits-all ks none (r ∷ rs) f =
     (fits-all ks none rs (λ k l. f (suc k) (omega arith)))
 
 -- loads within the prices, but for fixed rows
-pub carried-loads : (h : Hall) (ks : List Cut) → Carried h (λ i. row h i .price) ks → loads-fit ks (h .rows) ≡ true
+carried-loads : (h : Hall) (ks : List Cut) → Carried h (λ i. row h i .price) ks → loads-fit ks (h .rows) ≡ true
 unfolding Carried row count
 carried-loads h ks f =
     fits-all ks (row-of 0 0 0) (h .rows) (λ k l. let e : suc k - 1 ≡ k = omega arith in rw e at (f (suc k) (omega arith) (omega arith)))

@@ -37,7 +37,7 @@ module _ (h : Hall) where
       absurd (omega (arith, paid, cheap, sum-at-least (count h) (λ k. cond (F (suc k)) (cond (row h (suc k) .fixed) 256000001 (row h (suc k) .price)) 0) (i - 1) (omega arith))))
       (λ e. e)
 
-  pub choice-charges : (c : List ℕ) → is-choice h c ≡ true → cost h (charge h) (λ i. member i c) ≡ total h c
+  choice-charges : (c : List ℕ) → is-choice h c ≡ true → cost h (charge h) (λ i. member i c) ≡ total h c
   unfolding cost
   choice-charges c choice = sym (over-choice h (charge h) c choice) ∙ charge-total h c choice
 
@@ -46,12 +46,12 @@ module _ (h : Hall) where
   listed-charges F unfixed = sym (over-listed h (charge h) F) ∙ charge-total h (listed h F) (listed-choice h F unfixed)
 
   -- at ranked costs, the charges and the number of rows
-  pub ranked-charged : (F : ℕ → Bool) → cost h (ranked h) F ≡ 257 * cost h (charge h) F + length (listed h F)
+  ranked-charged : (F : ℕ → Bool) → cost h (ranked h) F ≡ 257 * cost h (charge h) F + length (listed h F)
   unfolding cost
   ranked-charged F = omega (arith, over-listed h (ranked h) F, ranked-charges h (listed h F), over-listed h (charge h) F)
 
   module _ (able : Plannable h) where
-    pub unfixed-cheap : (F : ℕ → Bool) → None-fixed h F → cost h (charge h) F ≤ 256000000
+    unfixed-cheap : (F : ℕ → Bool) → None-fixed h F → cost h (charge h) F ≤ 256000000
     unfixed-cheap F unfixed =
         omega (
           arith,

@@ -1,13 +1,12 @@
 -- A set of rows is listed in ascending order, with its rows as members; it is a choice where none of them is fixed. Assumes nothing.
 use mathlib.Core.Path.{_≡_, refl, sym, ap, _∙_}
 use mathlib.Core.Bool.{Bool, true, false}
-use mathlib.Core.List.{List, [], _∷_}
-use mathlib.Core.Logic.{⊎-elim}
+use mathlib.Core.List.{List, _∷_}
 use Prim.Native.Nat.{ℕ, zero, suc, _+_, _≤_, _<_}
 use native.Mathlib.Omega.{arith}
 use lib.Dec.{eqb}
 use borrow.Author.Tests.{eq-eqb, eqb-true, eqb-false}
-use Rattle.laws.proofs.Booleans.{by-bool, clash, or-cases}
+use Rattle.laws.proofs.Booleans.{by-bool}
 use Rattle.hall.specs.Hall.{Hall, row, count, ascends-from, is-choice, member}
 use Rattle.dicuts.proofs.Choices.{ascends-high, ascends-rest, ascends-skips, ascends-cons, ascends-earlier, ascends-members, ascends-choice}
 use Rattle.choicelists.specs.Listed.{passing, listed}

@@ -1,13 +1,13 @@
 -- In a total order the ascending lists that pass a test have a least one, or none passes. Assumes nothing.
 use mathlib.Core.Path.{_≡_, refl, sym, ap, _∙_}
-use mathlib.Core.Bool.{Bool, true, _&&_}
+use mathlib.Core.Bool.{Bool, true}
 use mathlib.Core.List.{List, [], _∷_}
 use mathlib.Core.Logic.{_⊎_, inl, inr, ⊎-elim}
 use Prim.Native.Nat.{ℕ, zero, suc, _+_, _≤_}
 use native.Mathlib.Omega.{arith}
-use lib.Dec.{leb, eqb}
-use borrow.Author.Tests.{le-leb, eqb-true, eqb-false}
-use Rattle.laws.proofs.Booleans.{by-bool, clash, and-i}
+use lib.Dec.{eqb}
+use borrow.Author.Tests.{eqb-true, eqb-false}
+use Rattle.laws.proofs.Booleans.{by-bool, clash}
 use Rattle.hall.specs.Hall.{ascends-from}
 use Rattle.dicuts.proofs.Choices.{ascends-low, ascends-high, ascends-rest, ascends-cons, ascends-earlier}
 use Rattle.order.specs.Least.{At-most, Order, Outcome, Passes, After}

@@ -1,12 +1,12 @@
 -- From the prices and marks of an accepted hall to the costs of both stages: the rows that are not fixed are a start at the charges, and what is least there is a start at the ranked costs. Assumes nothing.
-use mathlib.Core.Path.{_≡_, refl, sym, ap, ap₂, _∙_}
-use mathlib.Core.Bool.{Bool, true, false, not, cond}
+use mathlib.Core.Path.{_≡_, refl, ap, ap₂, _∙_}
+use mathlib.Core.Bool.{Bool, false, not, cond}
 use mathlib.Core.List.{List}
 use Prim.Native.Nat.{ℕ, suc, _+_, _*_, _-_, _^_, _<_, _≤_}
 use native.Mathlib.Omega.{arith}
 use lib.Dec.{ltb}
 use lib.ListN.{getD}
-use borrow.Author.Tests.{ltb-true, ltb-false, not-true}
+use borrow.Author.Tests.{ltb-true, ltb-false}
 use Rattle.laws.specs.Lists.{at}
 use Rattle.laws.proofs.Booleans.{by-bool}
 use Rattle.hall.specs.Hall.{Hall, row, count}
