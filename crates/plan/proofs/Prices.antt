@@ -18,6 +18,7 @@ use Rattle.potentials.proofs.Starts.{ranked-repairable, ranked-slack}
 use Rattle.order.specs.Ranked.{charge, ranked, Plannable}
 use Rattle.certificates.proofs.Charges.{rest-cheap}
 use Rattle.columns.specs.Columns.{flagged, Ends, Columns, Marks, Neighbourhoods}
+use Rattle.choice.proofs.Marked.{opposite-unfixed}
 use Rattle.zerograph.specs.Low.{Low}
 use Rattle.repair.specs.declared.State.{State}
 use Rattle.repair.specs.Repairs.{Repair-start}
@@ -61,7 +62,7 @@ module _ (h : Hall) (n m : ℕ) (tails heads prices : List ℕ) (fixed : List Bo
   -- the rows that are not fixed
   module _ (rows : List Bool) (others : Others fixed rows) where
     are-unfixed : (i : ℕ) → 1 ≤ i → i ≤ count h → flagged rows i ≡ unfixed-row h i
-    are-unfixed i l u = others (i - 1) (omega (arith, few)) ∙ ap not (rd .marks i l u)
+    are-unfixed = opposite-unfixed h fixed (rd .marks) few rows others
 
     pub unfixed-ready : Ready h n m tails heads rows
     unfixed-ready =
