@@ -1,5 +1,5 @@
 -- The cuts of a potential that meets P1, P2 and P3 for the charges, with any set of rows, stand beside the first choice: its total is what that set is charged. Assumes nothing.
-use mathlib.Core.Path.{_≡_, ap, _∙_}
+use mathlib.Core.Path.{_≡_, ap}
 use mathlib.Core.Bool.{Bool, true}
 use mathlib.Core.List.{List}
 use Prim.Native.Nat.{ℕ, _≤_}
@@ -7,24 +7,23 @@ use native.Mathlib.Omega.{arith}
 use lib.Dec.{leb}
 use borrow.Author.Tests.{leb-true, leb-false}
 use Rattle.laws.proofs.Booleans.{by-bool}
-use Rattle.hall.specs.Hall.{Hall, is-choice, member, joins}
+use Rattle.hall.specs.Hall.{Hall, is-choice, joins}
 use Rattle.hall.specs.Plan.{First, Cut, Beside, total}
 use Rattle.dicuts.specs.Shores.{Ranged, Linked, once}
-use Rattle.joining.proofs.Joining.{joining-mono}
-use Rattle.joining.proofs.Joins.{joining-joins}
+use Rattle.dicuts.specs.Listed.{listed, None-fixed}
+use Rattle.dicuts.proofs.Listed.{listed-choice}
+use Rattle.joining.proofs.Joins.{listed-joins}
 use Rattle.potentials.specs.Potential.{cost}
 use Rattle.potentials.specs.Repair.{Repaired}
 use Rattle.order.specs.Precedes.{Precedes, by-total, by-length, by-dictionary}
 use Rattle.order.specs.Ranked.{charge, Plannable}
 use Rattle.order.proofs.Before.{before-why}
-use Rattle.choicelists.specs.Listed.{listed}
-use Rattle.choicelists.proofs.Listed.{listed-choice, listed-member}
 use Rattle.duality.proofs.Beside.{weights-below-total}
 use Rattle.duality.proofs.Meeting.{joins-meeting}
 use Rattle.certificates.specs.Cuts.{peak, cuts}
 use Rattle.certificates.specs.Certificate.{Certificate}
 use Rattle.certificates.proofs.Certificate.{certificate}
-use Rattle.certificates.proofs.Charges.{None-fixed, cheap-unfixed, choice-cheap, listed-charges}
+use Rattle.certificates.proofs.Charges.{cheap-unfixed, choice-cheap, listed-charges}
 use Rattle.certificates.proofs.Classes.{peak-high}
 use Rattle.certificates.proofs.Beside.{weights-cost, charged-loads, certificate-beside}
 
@@ -60,11 +59,8 @@ module _ (h : Hall) where
       unfixed : None-fixed h F
       unfixed = cheap-unfixed h F (omega (arith, charged-least, choice-cheap h able c (first .choice)))
 
-      listed-joins : joins h (listed h F) ≡ true
-      listed-joins = joining-joins h ranged (listed h F) (joining-mono h F (λ i. member i (listed h F)) (λ i l m e. listed-member h F i l m ∙ e) (done .joining))
-
       same-total : cost h (charge h) F ≡ total h c
-      same-total = omega (arith, charged-least, listed-charges h F unfixed, first-least c (listed h F) first (listed-choice h F unfixed) listed-joins)
+      same-total = omega (arith, charged-least, listed-charges h F unfixed, first-least c (listed h F) first (listed-choice h F unfixed) (listed-joins h ranged F (done .joining)))
 
       pub beside-first : Beside h c (cuts h (once F) p top)
       beside-first = certificate-beside h F p (cuts h (once F) p top) proof (done .under) ranged linked c same-total (done .paid)

@@ -5,13 +5,12 @@ use mathlib.Core.List.{List, [], _∷_}
 use Prim.Native.Nat.{ℕ, suc, _+_, _-_, _<_, _≤_}
 use native.Mathlib.Numerals.{add-one}
 use native.Mathlib.Omega.{arith}
-use lib.Dec.{eqb}
 use lib.ListN.{length, getD, drop, set, length-set, replicate, length-replicate, drop-of-length-le}
 use lib.Seq.{drop-cons, getD-set-same, getD-set-other}
-use borrow.Author.Tests.{eqb-true, eqb-false}
+use borrow.Author.Count.{below-more}
 use Rattle.laws.specs.Finite.{any-below}
 use Rattle.laws.specs.Lists.{all-in}
-use Rattle.laws.proofs.Booleans.{by-bool, clash, not-true-false}
+use Rattle.laws.proofs.Booleans.{clash, not-true-false}
 use Rattle.laws.proofs.Finite.{any-intro}
 use Rattle.hall.specs.Hall.{Hall, count, ascends-from, none-fixed, is-choice}
 use Rattle.dicuts.specs.Shores.{unfixed-row}
@@ -72,10 +71,9 @@ opposite-none flags = record { len = length-replicate 256 false; at = λ j h. ab
 
 pub opposite-more : (flags : List Bool) (k : ℕ) (others : List Bool) → k < 256 → Opposite flags k others
     → Opposite flags (k + 1) (set others k (not (getD flags k false)))
-opposite-more flags k others h g = record { len = length-set others k (not (getD flags k false)) ∙ g .len; at = λ j m. one-more j m }
-  where
-    one-more : (j : ℕ) → j < k + 1 → getD (set others k (not (getD flags k false))) j false ≡ not (getD flags j false)
-    one-more j m =
-        by-bool (eqb j k)
-        (λ t. let q : j ≡ k = eqb-true j k t in rw q (getD-set-same others k (not (getD flags k false)) false (omega (arith, g .len))))
-        (λ t. let q = eqb-false j k t in getD-set-other others k j (not (getD flags k false)) false q ∙ g .at j (omega (arith, q)))
+opposite-more flags k others h g = record {
+  len = length-set others k (not (getD flags k false)) ∙ g .len;
+  at = below-more (λ (j : ℕ). getD (set others k (not (getD flags k false))) j false ≡ not (getD flags j false)) k
+      (λ j m. getD-set-other others k j (not (getD flags k false)) false (λ q. omega arith) ∙ g .at j m)
+      (getD-set-same others k (not (getD flags k false)) false (omega (arith, g .len)));
+}

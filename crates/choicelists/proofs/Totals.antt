@@ -9,9 +9,9 @@ use Rattle.laws.specs.Finite.{sum-below, one-if, count-below}
 use Rattle.laws.proofs.Finite.{sum-ext}
 use Rattle.hall.specs.Hall.{Hall, row, count, is-choice, member}
 use Rattle.hall.specs.Plan.{total}
+use Rattle.dicuts.specs.Listed.{listed}
 use Rattle.dicuts.proofs.Choices.{over, over-members, choice-ascends, total-over}
-use Rattle.choicelists.specs.Listed.{listed}
-use Rattle.choicelists.proofs.Listed.{listed-ascends, listed-member}
+use Rattle.dicuts.proofs.Listed.{listed-ascends, listed-member}
 
 pub length-over : (c : List ℕ) → length c ≡ over (λ i. 1) c
 unfolding over

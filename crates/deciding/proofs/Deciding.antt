@@ -10,6 +10,7 @@ use Rattle.digraph.specs.Reach.{Closed}
 use Rattle.hall.specs.Hall.{Hall, row, count}
 use Rattle.hall.specs.Plan.{First}
 use Rattle.dicuts.specs.Shores.{Ranged, once}
+use Rattle.dicuts.specs.Listed.{listed}
 use Rattle.joining.proofs.Joining.{joining-mono}
 use Rattle.potentials.specs.Potential.{Under, Paid, cost}
 use Rattle.potentials.specs.ZeroGraph.{zero-arcs, raised, Raisable}
@@ -22,7 +23,6 @@ use Rattle.potentials.proofs.Raise.{closed-raisable, raised-parted, raised-in, 
 use Rattle.potentials.proofs.Same.{cost-same, cost-rows-same, parted-same, priced-same}
 use Rattle.potentials.proofs.Weights.{put-same}
 use Rattle.order.specs.Ranked.{ranked, Plannable}
-use Rattle.choicelists.specs.Listed.{listed}
 use Rattle.choicelists.proofs.Leads.{leads-ext}
 use Rattle.certificates.proofs.Weighing.{parted-weighs}
 use Rattle.deciding.specs.Decided.{Decided, rows-after}

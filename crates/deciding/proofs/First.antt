@@ -1,5 +1,5 @@
 -- A joining set of rows of least ranked cost, all of them decided, is the first choice when it is listed. Assumes nothing.
-use mathlib.Core.Path.{_≡_, refl, _∙_}
+use mathlib.Core.Path.{_≡_, refl}
 use mathlib.Core.Bool.{Bool, true}
 use mathlib.Core.List.{List}
 use mathlib.Core.Logic.{⊎-elim}
@@ -9,15 +9,14 @@ use Rattle.laws.proofs.Numbers.{compare-numbers}
 use Rattle.hall.specs.Hall.{Hall, count, is-choice, member, joins}
 use Rattle.hall.specs.Plan.{First, earlier, goes-before}
 use Rattle.dicuts.specs.Shores.{Ranged, once, unfixed-row, Joining}
+use Rattle.dicuts.specs.Listed.{listed}
 use Rattle.dicuts.proofs.Choices.{over}
-use Rattle.joining.proofs.Joining.{joining-mono}
-use Rattle.joining.proofs.Joins.{joins-joining, joining-joins}
+use Rattle.dicuts.proofs.Listed.{listed-choice, listed-member}
+use Rattle.joining.proofs.Joins.{joins-joining, listed-joins}
 use Rattle.potentials.specs.Potential.{cost}
 use Rattle.order.specs.Ranked.{ranked, Plannable}
 use Rattle.order.proofs.Dictionary.{earlier-total}
 use Rattle.order.proofs.Ranked.{ranked-same, ranked-before, dictionary-before}
-use Rattle.choicelists.specs.Listed.{listed}
-use Rattle.choicelists.proofs.Listed.{listed-choice, listed-member}
 use Rattle.choicelists.proofs.Totals.{over-choice, over-listed}
 use Rattle.choicelists.proofs.Leads.{leads-ext, earlier-leads}
 use Rattle.certificates.proofs.Charges.{ranked-unfixed}
@@ -27,11 +26,6 @@ module _ (h : Hall) (ranged : Ranged h) (able : Plannable h) (F : ℕ → Bool) 
     (least : (G : ℕ → Bool) → Joining h (once G) → cost h (ranked h) F ≤ cost h (ranked h) G) (decided : Decided h (ranked h) F (count h)) where
   is-chosen : is-choice h (listed h F) ≡ true
   is-chosen = listed-choice h F (ranked-unfixed h able F (least (unfixed-row h) (able .joining)))
-
-  listed-joins : joins h (listed h F) ≡ true
-  listed-joins =
-      joining-joins h ranged (listed h F)
-      (joining-mono h F (λ i. member i (listed h F)) (λ i low high e. listed-member h F i low high ∙ e) joining)
 
   goes-first : (d : List ℕ) → is-choice h d ≡ true → joins h d ≡ true → (listed h F ≡ d → ⊥) → goes-before h (listed h F) d ≡ true
   unfolding cost Decided
@@ -54,4 +48,4 @@ module _ (h : Hall) (ranged : Ranged h) (able : Plannable h) (F : ℕ → Bool) 
       (compare-numbers (over (ranked h) c) (over (ranked h) d))
 
   pub decided-first : First h (listed h F)
-  decided-first = record { choice = is-chosen; joining = listed-joins; before = goes-first }
+  decided-first = record { choice = is-chosen; joining = listed-joins h ranged F joining; before = goes-first }

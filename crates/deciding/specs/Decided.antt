@@ -5,7 +5,7 @@ use lib.Dec.{leb}
 use Rattle.hall.specs.Hall.{Hall}
 use Rattle.dicuts.specs.Shores.{once, Joining}
 use Rattle.potentials.specs.Potential.{cost}
-use Rattle.choicelists.specs.Listed.{Differs-first}
+use Rattle.choicelists.specs.Leads.{Differs-first}
 
 -- ROWS 1 TO k ARE DECIDED: no joining set that costs no more has, among them, the first row in which it and F differ
 unfoldable pub Decided : Hall → (c : ℕ → ℕ) → (F : ℕ → Bool) → (k : ℕ) → Type 0

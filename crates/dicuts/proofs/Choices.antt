@@ -6,6 +6,7 @@ use mathlib.Core.Logic.{⊎-elim}
 use Prim.Native.Nat.{ℕ, suc, _+_, _-_, _<_, _≤_}
 use native.Mathlib.Omega.{arith}
 use lib.Dec.{eqb, leb}
+use lib.ListN.{length}
 use borrow.Author.Tests.{leb-true, le-leb, eqb-true, eqb-false, ne-eqb, eq-eqb, not-true}
 use Rattle.laws.specs.Finite.{sum-below, one-if}
 use Rattle.laws.proofs.Booleans.{by-bool, clash, and-l, and-r, and-i, or-cases, or-l, or-r}
@@ -44,6 +45,15 @@ ascends-earlier a b l [] h e = refl
 ascends-earlier a b l (x ∷ xs) h e =
     ascends-cons a l x xs (omega (arith, ascends-low b l x xs e)) (ascends-high b l x xs e) (ascends-rest b l x xs e)
 
+-- the first number is a member, and so are those of the rest
+pub member-head : (x : ℕ) (xs : List ℕ) → member x (x ∷ xs) ≡ true
+unfolding member
+member-head x xs = or-l (eqb x x) (member x xs) (eq-eqb x x refl)
+
+pub member-rest : (i x : ℕ) (xs : List ℕ) → member i xs ≡ true → member i (x ∷ xs) ≡ true
+unfolding member
+member-rest i x xs t = or-r (eqb x i) (member i xs) t
+
 -- nothing below the start is a member
 pub ascends-skips : (a l : ℕ) (c : List ℕ) (v : ℕ) → ascends-from a l c ≡ true → v < a → member v c ≡ false
 unfolding member
@@ -62,6 +72,11 @@ ascends-members l a (i ∷ is) v e t =
     ⊎-elim (λ (q : eqb i v ≡ true). omega (arith, eqb-true i v q))
     (λ (q : member v is ≡ true). let r = ascends-members l (suc i) is v (ascends-rest a l i is e) q in (omega arith, r .1))
     (or-cases (eqb i v) (member v is) t)
+
+ascends-length : (a l : ℕ) (c : List ℕ) → a ≤ suc l → ascends-from a l c ≡ true → length c + a ≤ suc l
+ascends-length a l [] low e = omega arith
+ascends-length a l (i ∷ is) low e =
+    omega (arith, ascends-low a l i is e, ascends-length (suc i) l is (omega (arith, ascends-high a l i is e)) (ascends-rest a l i is e))
 
 pub over-members : (f : ℕ → ℕ) (a l : ℕ) (c : List ℕ) → 1 ≤ a → ascends-from a l c ≡ true → over f c ≡ sum-below l (λ k. cond (member (suc k) c) (f (suc k)) 0)
 unfolding over member
@@ -103,15 +118,19 @@ module _ (h : Hall) where
       (λ (q : member i xs ≡ true). none-fixed-at xs i (and-r (not (row h x .fixed)) (none-fixed h xs) e) q) (or-cases (eqb x i) (member i xs) t)
 
   at-none-fixed : (c : List ℕ) → ((i : ℕ) → member i c ≡ true → row h i .fixed ≡ false) → none-fixed h c ≡ true
-  unfolding none-fixed member
+  unfolding none-fixed
   at-none-fixed [] f = refl
   at-none-fixed (x ∷ xs) f =
-      and-i (not (row h x .fixed)) (none-fixed h xs) (ap not (f x (or-l (eqb x x) (member x xs) (eq-eqb x x refl))))
-      (at-none-fixed xs (λ i t. f i (or-r (eqb x i) (member i xs) t)))
+      and-i (not (row h x .fixed)) (none-fixed h xs) (ap not (f x (member-head x xs)))
+      (at-none-fixed xs (λ i t. f i (member-rest i x xs t)))
 
   pub choice-ascends : (c : List ℕ) → is-choice h c ≡ true → ascends-from 1 (count h) c ≡ true
   unfolding is-choice
   choice-ascends c e = and-l (ascends-from 1 (count h) c) (none-fixed h c) e
+
+  -- a choice has at most as many rows as the hall
+  pub choice-length : (c : List ℕ) → is-choice h c ≡ true → length c ≤ count h
+  choice-length c e = omega (arith, ascends-length 1 (count h) c (omega arith) (choice-ascends c e))
 
   pub choice-unfixed : (c : List ℕ) (i : ℕ) → is-choice h c ≡ true → member i c ≡ true → row h i .fixed ≡ false
   unfolding is-choice

@@ -1,4 +1,5 @@
 pub mod Choices
+pub mod Listed
 pub mod Unfixed
 pub mod Shores
 pub mod Same

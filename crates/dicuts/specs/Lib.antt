@@ -1,4 +1,5 @@
 pub mod Shores
+pub mod Listed
 pub mod Arcs
 pub mod Crossing
 pub mod Parts

@@ -14,9 +14,9 @@ use Rattle.laws.proofs.Booleans.{tests, by-bool, bool-ext}
 use Rattle.hall.specs.Hall.{Hall, count}
 use Rattle.hall.specs.Plan.{First}
 use Rattle.dicuts.specs.Shores.{Ranged}
+use Rattle.dicuts.specs.Listed.{listed}
 use Rattle.potentials.specs.Repair.{Repaired}
 use Rattle.order.specs.Ranked.{ranked, Plannable}
-use Rattle.choicelists.specs.Listed.{listed}
 use Rattle.deciding.specs.Decided.{rows-after}
 use Rattle.deciding.specs.Deciding.{Deciding}
 use Rattle.deciding.proofs.Deciding.{not-after, deciding-start, deciding-same, deciding-end}

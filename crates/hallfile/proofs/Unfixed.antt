@@ -5,13 +5,12 @@ use Prim.Native.Nat.{ℕ, zero, suc, _≤_}
 use native.Mathlib.Omega.{arith}
 use lib.Dec.{eqb}
 use borrow.Author.Tests.{ne-eqb}
-use Rattle.laws.proofs.Booleans.{bool-ext}
-use Rattle.hall.specs.Hall.{Hall, count, unfixed, meets-all, missed, is-none, joins}
+use Rattle.hall.specs.Hall.{Hall, count, unfixed, missed, is-none, joins}
 use Rattle.hall.specs.File.{openable}
 use Rattle.dicuts.specs.Shores.{Ranged, Linked, unfixed-row}
 use Rattle.dicuts.proofs.Unfixed.{unfixed-choice}
 use Rattle.joining.proofs.Joining.{joining-mono, linked-joining}
-use Rattle.joining.proofs.Joins.{meets-joining, joining-meets, joins-joining, joining-joins}
+use Rattle.joining.proofs.Joins.{joins-meets}
 use Rattle.joining.proofs.Openable.{joining-openable}
 use Rattle.choice.specs.Short.{if-some}
 
@@ -27,7 +26,4 @@ module _ (h : Hall) where
 
   pub missed-openable : Ranged h → (s : ℕ) → if-some s ≡ missed h (unfixed h) → eqb s 0 ≡ openable h
   unfolding openable joins
-  missed-openable rg s e =
-      none-missed s ∙ ap is-none e
-      ∙ bool-ext (joins h (unfixed h)) (meets-all h (unfixed h)) (λ t. joining-meets h (unfixed h) (unfixed-choice h) (joins-joining h rg (unfixed h) t))
-      (λ t. joining-joins h rg (unfixed h) (meets-joining h (unfixed h) (unfixed-choice h) t))
+  missed-openable rg s e = none-missed s ∙ ap is-none e ∙ joins-meets h rg (unfixed h) (unfixed-choice h)

@@ -1,4 +1,4 @@
--- What an accepted file gives: a sound file whose hall does not fall apart and whose unfixed rows join. Assumes nothing.
+-- What an accepted file gives: a sound file whose hall does not fall apart and can be opened. Assumes nothing.
 use mathlib.Core.Path.{_≡_, sym, ap, _∙_}
 use mathlib.Core.Bool.{true, false}
 use mathlib.Core.List.{List}
@@ -8,12 +8,11 @@ use lib.Dec.{eqb}
 use borrow.Author.Tests.{eqb-true}
 use Rattle.laws.proofs.Booleans.{by-bool, and-r}
 use Rattle.hall.specs.File.{hall-in, Refusal, refusal, hall-refusal, connected, openable}
-use Rattle.dicuts.specs.Shores.{Ranged, Linked, once, unfixed-row, Joining}
+use Rattle.dicuts.specs.Shores.{Ranged, Linked}
 use Rattle.joining.specs.Sound.{Sound}
 use Rattle.joining.specs.Promise.{all-bytes, accepted}
 use Rattle.joining.proofs.Sound.{other-sound, sound-ranged, sound-unconnected, sound-unopenable, sound-openable}
 use Rattle.joining.proofs.Connected.{connected-linked}
-use Rattle.joining.proofs.Openable.{openable-joining}
 
 module _ (bs : List ℕ) where
   -- what is left to ask of a sound file, by the refusal's number
@@ -61,6 +60,5 @@ module _ (bs : List ℕ) where
     pub accepted-linked : Linked (hall-in bs)
     accepted-linked = connected-linked (hall-in bs) accepted-ranged (unrefused-walked accepted-sound accepted-number .0)
 
-    -- the rows that are not fixed join
-    pub accepted-open : Joining (hall-in bs) (once (unfixed-row (hall-in bs)))
-    accepted-open = openable-joining (hall-in bs) (unrefused-walked accepted-sound accepted-number .1)
+    pub accepted-openable : openable (hall-in bs) ≡ true
+    accepted-openable = unrefused-walked accepted-sound accepted-number .1

@@ -1,6 +1,6 @@
 -- The check of a choice: it joins exactly if it meets every directed cut, and a missed shore is a directed cut that it does not meet. Assumes nothing.
 use mathlib.Core.Path.{_≡_, refl, sym, ap, _∙_}
-use mathlib.Core.Bool.{true, _||_, not}
+use mathlib.Core.Bool.{Bool, true, _||_, not}
 use mathlib.Core.List.{List}
 use mathlib.Core.Logic.{⊎-elim}
 use mathlib.Core.Option.{Option, none, some}
@@ -8,7 +8,7 @@ use Prim.Native.Nat.{ℕ, zero, suc, _+_, _-_, _^_, _≤_, _<_}
 use native.Mathlib.Omega.{arith}
 use lib.Dec.{eqb, ltb}
 use borrow.Author.Tests.{eq-eqb, eqb-true, eqb-false, ltb-true, ltb-false, lt-ltb, not-true}
-use Rattle.laws.proofs.Booleans.{by-bool, clash, and-l, and-r, and-i, or-cases, or-l, or-r, cond-true, cond-false}
+use Rattle.laws.proofs.Booleans.{by-bool, clash, bool-ext, and-l, and-r, and-i, or-cases, or-l, or-r, cond-true, cond-false}
 use Rattle.junctions.specs.Sets.{holds, full, Within}
 use Rattle.junctions.proofs.Sets.{full-lt}
 use Rattle.junctions.proofs.Single.{one-self}
@@ -16,13 +16,15 @@ use Rattle.junctions.proofs.Members.{holds-some}
 use Rattle.digraph.proofs.Closure.{reach-unique}
 use Rattle.hall.specs.Hall.{Hall, is-cut, is-choice, entering, meets-from, meets-all, member, reached, first-short, missed, is-none, joins}
 use Rattle.dicuts.specs.Shores.{Ranged, Shore, cover, once, Joining}
+use Rattle.dicuts.specs.Listed.{listed}
 use Rattle.dicuts.specs.Arcs.{arcs}
 use Rattle.dicuts.proofs.Shores.{cut-shore, shore-cut, shore-lt}
 use Rattle.dicuts.proofs.Choices.{entering-cover}
+use Rattle.dicuts.proofs.Listed.{listed-member}
 use Rattle.joining.specs.Sealed.{Sealed}
 use Rattle.joining.proofs.Sealed.{closed-sealed}
 use Rattle.joining.proofs.Reached.{reached-is, reached-lt}
-use Rattle.joining.proofs.Joining.{sealed-cover, sealed-shore, joining-reach, reach-joining}
+use Rattle.joining.proofs.Joining.{sealed-cover, sealed-shore, joining-mono, joining-reach, reach-joining}
 
 none-is : (o : Option ℕ) → is-none o ≡ true → o ≡ none
 unfolding is-none
@@ -114,6 +116,10 @@ module _ (h : Hall) (rg : Ranged h) (c : List ℕ) where
       reach-unique (h .n) (arcs h (λ i. member i c)) (2 ^ (j - 1)) (reached h c j) (full (h .n)) (reached-lt h rg c j l m) (full-lt (h .n))
       (reached-is h rg c j l m) (joining-reach h (λ i. member i c) rg jn j l m))
 
+  -- so the check and the test of every directed cut agree
+  pub joins-meets : is-choice h c ≡ true → joins h c ≡ meets-all h c
+  joins-meets ch = bool-ext (joins h c) (meets-all h c) (λ e. joining-meets h c ch (joins-joining e)) (λ e. joining-joins (meets-joining h c ch e))
+
   pub reached-sealed : (j : ℕ) → 1 ≤ j → j ≤ h .n → Sealed h (λ i. member i c) (reached h c j)
   reached-sealed j l m = closed-sealed h (λ i. member i c) (reached h c j) rg (reached-is h rg c j l m .closed)
 
@@ -142,3 +148,7 @@ module _ (h : Hall) (rg : Ranged h) (c : List ℕ) where
 
   pub missed-shore : (s : ℕ) → is-choice h c ≡ true → missed h c ≡ some s → (is-cut h s ≡ true) × (entering h s c ≡ 0)
   missed-shore s ch e = let w = missed-uncovered s e in (shore-cut h s (w .0), entering-cover h s c ch ∙ w .1)
+
+-- the list of a set that joins
+pub listed-joins : (h : Hall) → Ranged h → (F : ℕ → Bool) → Joining h (once F) → joins h (listed h F) ≡ true
+listed-joins h rg F jn = joining-joins h rg (listed h F) (joining-mono h F (λ i. member i (listed h F)) (λ i l m e. listed-member h F i l m ∙ e) jn)

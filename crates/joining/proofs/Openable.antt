@@ -15,7 +15,7 @@ use Rattle.dicuts.proofs.Same.{cover-same}
 use Rattle.dicuts.proofs.Unfixed.{unfixed-member, unfixed-choice}
 use Rattle.joining.specs.Fixed.{Fixed-cut}
 use Rattle.joining.proofs.Joining.{joining-mono, sealed-cover, cover-sealed}
-use Rattle.joining.proofs.Joins.{meets-joining, joining-meets, joins-joining, missed-uncovered}
+use Rattle.joining.proofs.Joins.{meets-joining, joining-meets, joins-meets, missed-uncovered}
 
 module _ (h : Hall) where
   pub openable-joining : openable h ≡ true → Joining h (once (unfixed-row h))
@@ -63,7 +63,7 @@ module _ (h : Hall) where
   module _ (rg : Ranged h) (shut : openable h ≡ false) where
     missed-fixed : (o : Option ℕ) → missed h (unfixed h) ≡ o → (s : ℕ) × Fixed-cut h s
     unfolding joins is-none openable
-    missed-fixed none e = clash (joining-meets h (unfixed h) (unfixed-choice h) (joins-joining h rg (unfixed h) (ap is-none e))) shut
+    missed-fixed none e = clash (sym (joins-meets h rg (unfixed h) (unfixed-choice h)) ∙ ap is-none e) shut
     missed-fixed (some s) e =
         let w = missed-uncovered h rg (unfixed h) s e in
         (s, uncovered-fixed s (w .0) (sym (cover-same h (λ i. member i (unfixed h)) (unfixed-row h) (unfixed-member h) s) ∙ w .1))

@@ -1,11 +1,11 @@
 -- The statements of specs/Promise.antt, proved. Assumes nothing.
-use mathlib.Core.Path.{ap}
+use mathlib.Core.Path.{sym, ap, _∙_}
 use Rattle.laws.proofs.Booleans.{by-bool}
 use Rattle.hall.specs.Hall.{count, reached}
 use Rattle.hall.specs.File.{hall-in, all-numbers, Refusal, refusal, connected}
 use Rattle.joining.specs.Promise.{Joins-exactly, Missed-cut, Unjoined-exactly, Fixed-exactly}
 use Rattle.joining.proofs.Sound.{sound-ranged, sound-unconnected, sound-unopenable}
-use Rattle.joining.proofs.Joins.{meets-joining, joining-meets, joins-joining, joining-joins, missed-shore}
+use Rattle.joining.proofs.Joins.{joins-meets, missed-shore}
 use Rattle.joining.proofs.Connected.{unconnected-split, split-unconnected}
 use Rattle.joining.proofs.Openable.{unopenable-fixed, fixed-unopenable}
 use Rattle.joining.proofs.Accepted.{accepted-ranged, nine-unconnected, fifteen-unopenable}
@@ -13,9 +13,8 @@ use Rattle.joining.proofs.Accepted.{accepted-ranged, nine-unconnected, 
 pub joins-exactly : Joins-exactly
 unfolding Joins-exactly
 joins-exactly bs c acc ch =
-    let h = hall-in bs in
-    let rg = accepted-ranged bs acc in
-    (λ e. joining-meets h c ch (joins-joining h rg c e), λ e. joining-joins h rg c (meets-joining h c ch e))
+    let same = joins-meets (hall-in bs) (accepted-ranged bs acc) c ch in
+    (λ e. sym same ∙ e, λ e. same ∙ e)
 
 pub missed-cut : Missed-cut
 unfolding Missed-cut

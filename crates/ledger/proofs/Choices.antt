@@ -13,8 +13,8 @@ use Rattle.laws.proofs.Booleans.{by-bool}
 use Rattle.laws.proofs.Finite.{sum-ext}
 use Rattle.hall.specs.Hall.{Hall, row, count}
 use Rattle.hall.specs.Plan.{total}
+use Rattle.dicuts.specs.Listed.{passing, listed}
 use Rattle.columns.specs.Columns.{flagged}
-use Rattle.choicelists.specs.Listed.{passing, listed}
 use Rattle.choicelists.proofs.Totals.{listed-total}
 
 -- one number more

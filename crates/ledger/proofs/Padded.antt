@@ -1,6 +1,5 @@
 -- Columns filled place by place, and what their bounds are. Assumes nothing.
 use mathlib.Core.Path.{_≡_, _∙_}
-use mathlib.Core.Bool.{Bool, false}
 use mathlib.Core.List.{List}
 use Prim.Native.Nat.{ℕ, _+_, _≤_, _<_}
 use native.Mathlib.Omega.{arith}
@@ -8,9 +7,8 @@ use lib.ListN.{getD, set, replicate, length-set, length-replicate}
 use lib.Seq.{getD-set-same, getD-set-other}
 use borrow.Author.Count.{below-more}
 use Rattle.laws.specs.Lists.{at}
-use Rattle.laws.proofs.Booleans.{by-bool}
 use Rattle.laws.proofs.Lists.{replicate-at}
-use Rattle.ledger.specs.Padded.{Padded, charged}
+use Rattle.ledger.specs.Padded.{Padded}
 
 module _ (size : ℕ) (f : ℕ → ℕ) where
   pub padded-none : Padded size f 0 (replicate size 0)
@@ -28,7 +26,3 @@ module _ (size : ℕ) (f : ℕ → ℕ) where
   module _ (k : ℕ) (column : List ℕ) (g : Padded size f k column) where
     pub padded-all : (m : ℕ) → k ≤ m → m ≤ k → Padded size f m column
     padded-all m l o = let e : k ≡ m = omega arith in rw e at g
-
--- where the price is within its limit, no charge is over that of a fixed row
-pub charged-low : (prices : List ℕ) (fixed : List Bool) (k : ℕ) → getD prices k 0 ≤ 1000000 → charged prices fixed k ≤ 256000001
-charged-low prices fixed k low = by-bool (getD fixed k false) (λ e. rw e (omega arith)) (λ e. rw e (omega arith))

@@ -1,8 +1,8 @@
 // Costs from prices and marks, and a potential for the ranked costs.
 ghost use mathlib.Core.Path.{_≡_};
-ghost use mathlib.Core.Bool.{cond};
 ghost use Prim.Native.Nat.{ℕ, _+_, _*_, _^_, _≤_, _<_};
 ghost use lib.ListN.{getD};
+ghost use Rattle.order.specs.Ranked.{charge-of};
 ghost use Rattle.ledger.specs.Padded.{Padded, charged, Prices-low};
 
 // More than 256 prices together: what no choice costs.
@@ -10,7 +10,7 @@ const FIXED: u64 = 256_000_001;
 
 // The charge of a row: its price, or more than any choice costs.
 fn charge(price: u32, fixed: bool) -> u64
-    ensures { λ r. ⌜ r ≡ cond fixed 256000001 price ⌝ }
+    ensures { λ r. ⌜ r ≡ charge-of fixed price ⌝ }
 {
     if fixed { FIXED } else { price as u64 }
 }

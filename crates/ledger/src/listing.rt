@@ -6,8 +6,8 @@ ghost use Prim.Native.Nat.{ℕ, _≤_};
 ghost use lib.ListN.{length, getD, drop};
 ghost use Rattle.laws.specs.Finite.{sum-below};
 ghost use Rattle.hall.specs.Hall.{Hall, count};
+ghost use Rattle.dicuts.specs.Listed.{listed};
 ghost use Rattle.columns.specs.Columns.{flagged};
-ghost use Rattle.choicelists.specs.Listed.{listed};
 ghost use Rattle.ledger.specs.Padded.{Prices-low};
 
 // The numbers of the flagged rows, ascending, into the first places. Returns how many there are.

@@ -1,9 +1,9 @@
 -- With at most 256 rows, the ranked cost orders choices by total, then by row count. Assumes nothing.
 use mathlib.Core.Path.{_≡_, refl}
-use mathlib.Core.Bool.{true, false, not}
+use mathlib.Core.Bool.{Bool, true, false, not}
 use mathlib.Core.List.{List, [], _∷_}
 use mathlib.Core.Logic.{_⊎_, inl, inr, ⊎-elim}
-use Prim.Native.Nat.{ℕ, suc, _+_, _*_, _<_, _≤_}
+use Prim.Native.Nat.{ℕ, _+_, _*_, _<_, _≤_}
 use native.Mathlib.Omega.{arith}
 use lib.ListN.{length}
 use borrow.Author.Tests.{not-true}
@@ -11,15 +11,25 @@ use Rattle.laws.proofs.Numbers.{compare-numbers}
 use Rattle.laws.proofs.Booleans.{and-l, and-r}
 use Rattle.hall.specs.Hall.{Hall, row, count, ascends-from, none-fixed, is-choice}
 use Rattle.hall.specs.Plan.{total, earlier, goes-before}
-use Rattle.dicuts.proofs.Choices.{over, ascends-low, ascends-high, ascends-rest, choice-ascends}
+use Rattle.dicuts.proofs.Choices.{over, choice-length}
 use Rattle.order.specs.Precedes.{by-total, by-length, by-dictionary}
-use Rattle.order.specs.Ranked.{charge, ranked}
+use Rattle.order.specs.Ranked.{charge-of, charge, ranked}
 use Rattle.order.proofs.Before.{before-of}
 
--- a row that is not fixed is charged its price
+-- where the price is within its limit, no charge is over that of a fixed row
+pub charge-most : (fixed : Bool) (price : ℕ) → price ≤ 1000000 → charge-of fixed price ≤ 256000001
+unfolding charge-of
+charge-most true price low = omega arith
+charge-most false price low = omega arith
+
+-- the charge of a row that is not fixed, and of one that is
 pub charge-price : (h : Hall) (i : ℕ) → row h i .fixed ≡ false → charge h i ≡ row h i .price
-unfolding charge
+unfolding charge charge-of
 charge-price h i e = rw e
+
+pub charge-fixed : (h : Hall) (i : ℕ) → row h i .fixed ≡ true → charge h i ≡ 256000001
+unfolding charge charge-of
+charge-fixed h i e = rw e
 
 charge-sum : (h : Hall) (c : List ℕ) → none-fixed h c ≡ true → over (charge h) c ≡ total h c
 unfolding over total none-fixed
@@ -43,15 +53,6 @@ ranked-charges h (i ∷ is) = omega (arith, ranked-charges h is)
 
 pub ranked-sum : (h : Hall) (c : List ℕ) → is-choice h c ≡ true → over (ranked h) c ≡ 257 * total h c + length c
 ranked-sum h c e = omega (arith, ranked-charges h c, charge-total h c e)
-
-ascends-length : (a l : ℕ) (c : List ℕ) → a ≤ suc l → ascends-from a l c ≡ true → length c + a ≤ suc l
-ascends-length a l [] low e = omega arith
-ascends-length a l (i ∷ is) low e =
-    omega (arith, ascends-low a l i is e, ascends-length (suc i) l is (omega (arith, ascends-high a l i is e)) (ascends-rest a l i is e))
-
--- a choice has at most as many rows as the hall
-pub choice-length : (h : Hall) (c : List ℕ) → is-choice h c ≡ true → length c ≤ count h
-choice-length h c e = omega (arith, ascends-length 1 (count h) c (omega arith) (choice-ascends h c e))
 
 module _ (h : Hall) (few : count h ≤ 256) (c d : List ℕ) (c-choice : is-choice h c ≡ true) (d-choice : is-choice h d ≡ true) where
   pub ranked-less : over (ranked h) c < over (ranked h) d → (total h c < total h d) ⊎ ((total h c ≡ total h d) × (length c < length d))

@@ -1,12 +1,17 @@
 -- What a row costs the planner: its price, or more than any choice costs; and one cost that decides by total, then by row count. Assumes nothing: these are definitions.
-use mathlib.Core.Bool.{cond}
+use mathlib.Core.Bool.{Bool, true, false}
 use Prim.Native.Nat.{ℕ, _+_, _*_, _≤_}
 use Rattle.hall.specs.Hall.{Hall, row, count}
 use Rattle.dicuts.specs.Shores.{once, unfixed-row, Joining}
 
--- the charge of a row: its price; 256,000,001 for a fixed row, more than 256 prices together
+-- the price; for a fixed row 256,000,001, more than 256 prices together
+unfoldable pub charge-of : (fixed : Bool) → (price : ℕ) → ℕ
+charge-of true price = 256000001
+charge-of false price = price
+
+-- the charge of a row
 unfoldable pub charge : Hall → (i : ℕ) → ℕ
-charge h i = cond (row h i .fixed) 256000001 (row h i .price)
+charge h i = charge-of (row h i .fixed) (row h i .price)
 
 -- the ranked cost of a row: 257 times its charge, and 1
 unfoldable pub ranked : Hall → (i : ℕ) → ℕ

@@ -1,6 +1,6 @@
 -- From the prices and marks of an accepted hall to the costs of both stages: the rows that are not fixed are a start at the charges, and what is least there is a start at the ranked costs. Assumes nothing.
 use mathlib.Core.Path.{_≡_, refl, ap, ap₂, _∙_}
-use mathlib.Core.Bool.{Bool, false, not, cond}
+use mathlib.Core.Bool.{Bool, false, not}
 use mathlib.Core.List.{List}
 use Prim.Native.Nat.{ℕ, suc, _+_, _*_, _-_, _^_, _<_, _≤_}
 use native.Mathlib.Omega.{arith}
@@ -15,7 +15,8 @@ use Rattle.joining.proofs.Joining.{joining-mono}
 use Rattle.potentials.specs.Repair.{Repairable, Repaired}
 use Rattle.potentials.proofs.Same.{cost-same, cost-rows-same, repaired-same}
 use Rattle.potentials.proofs.Starts.{ranked-repairable, ranked-slack}
-use Rattle.order.specs.Ranked.{charge, ranked, Plannable}
+use Rattle.order.specs.Ranked.{charge-of, charge, ranked, Plannable}
+use Rattle.order.proofs.Ranked.{charge-most}
 use Rattle.certificates.proofs.Charges.{rest-cheap}
 use Rattle.columns.specs.Columns.{flagged, Ends, Columns, Marks, Neighbourhoods}
 use Rattle.choice.proofs.Marked.{opposite-unfixed}
@@ -23,7 +24,6 @@ use Rattle.zerograph.specs.Low.{Low}
 use Rattle.repair.specs.declared.State.{State}
 use Rattle.repair.specs.Repairs.{Repair-start}
 use Rattle.ledger.specs.Padded.{Padded, Prices-low, charged}
-use Rattle.ledger.proofs.Padded.{charged-low}
 use Rattle.plan.specs.Ready.{Modest, Ready, Cheapest}
 
 -- the columns hold an accepted hall, its prices and its marks
@@ -57,7 +57,7 @@ module _ (h : Hall) (n m : ℕ) (tails heads prices : List ℕ) (fixed : List Bo
 
   are-charges : (i : ℕ) → 1 ≤ i → i ≤ count h → charged prices fixed (i - 1) ≡ charge h i
   unfolding charge
-  are-charges i l u = ap₂ (λ (b : Bool) (x : ℕ). cond b 256000001 x) (rd .marks i l u) (rd .price i l u)
+  are-charges i l u = ap₂ charge-of (rd .marks i l u) (rd .price i l u)
 
   -- the rows that are not fixed
   module _ (rows : List Bool) (others : Others fixed rows) where
@@ -79,7 +79,7 @@ module _ (h : Hall) (n m : ℕ) (tails heads prices : List ℕ) (fixed : List Bo
 
     pub charge-modest : Modest charges
     charge-modest k =
-        by-bool (ltb k m) (λ t. let in-it = ltb-true k m t in omega (arith, filled .first k in-it, charged-low prices fixed k (priced k in-it)))
+        by-bool (ltb k m) (λ t. let in-it = ltb-true k m t in omega (arith, filled .first k in-it, charge-most (getD fixed k false) (getD prices k 0) (priced k in-it)))
         (λ t. omega (arith, filled .rest k (ltb-false k m t)))
 
     pub charge-least : (rows : List Bool) → Others fixed rows → (s : State) → Cheapest h charges rows s → Least h s
@@ -109,7 +109,7 @@ module _ (h : Hall) (n m : ℕ) (tails heads prices : List ℕ) (fixed : List Bo
       pub ranked-low : Low costs
       ranked-low k =
           by-bool (ltb k m)
-          (λ t. let in-it = ltb-true k m t in omega (arith, filled .first k in-it, charged-low prices fixed k (priced k in-it)))
+          (λ t. let in-it = ltb-true k m t in omega (arith, filled .first k in-it, charge-most (getD fixed k false) (getD prices k 0) (priced k in-it)))
           (λ t. omega (arith, filled .rest k (ltb-false k m t)))
 
       ranked-cost : (i : ℕ) → 1 ≤ i → i ≤ count h → at costs i ≡ 257 * charge h i + 1

@@ -15,9 +15,9 @@ use Rattle.hall.specs.Hall.{Hall, count}
 use Rattle.hall.specs.File.{hall-in, hall-refusal, Refusal, refusal}
 use Rattle.hall.specs.Plan.{First}
 use Rattle.dicuts.specs.Shores.{once}
+use Rattle.dicuts.specs.Listed.{listed}
 use Rattle.columns.specs.Columns.{flagged, Ends, Arcs}
 use Rattle.adjacency.proofs.Arcs.{arcs-ext}
-use Rattle.choicelists.specs.Listed.{listed}
 use Rattle.certificates.specs.Cuts.{cuts}
 use Rattle.certificates.proofs.First.{beside-first}
 use Rattle.levels.specs.Levels.{Levelled}

@@ -2,29 +2,24 @@
 use mathlib.Core.Path.{_≡_, refl, ap, ap₂}
 use mathlib.Core.Bool.{true}
 use mathlib.Core.List.{List, [], _∷_}
-use Prim.Native.Nat.{ℕ, suc, _+_, _≤_}
+use Prim.Native.Nat.{ℕ, _≤_}
 use native.Mathlib.Omega.{arith}
 use lib.IntN.{ℤ}
 use lib.ListN.{length}
-use Rattle.hall.specs.Hall.{Hall, count, is-choice, ascends-from}
+use Rattle.hall.specs.Hall.{Hall, count, is-choice}
 use Rattle.hall.specs.File.{Refusal, refusal}
 use Rattle.hall.specs.Plan.{Cut}
 use Rattle.hallfile.specs.declared.HallRecord.{HallRecord}
-use Rattle.dicuts.proofs.Choices.{ascends-low, ascends-high, ascends-rest, choice-ascends}
+use Rattle.dicuts.proofs.Choices.{choice-length}
 use Rattle.lines.specs.Placed.{text}
 use Rattle.lines.specs.Lines.{newline, one, number-line, pair-line, cut-line, level-item}
 use Rattle.printing.specs.Printed.{hall-word, open-word, total-word, cuts-word, levels-word, refused-word, each, row-line, choice-lines, cut-lines, levels-line, printed-plan, printed-refusal}
 use Rattle.printing.specs.Recorded.{hall-of, paired}
 use Rattle.printing.proofs.Recorded.{hall-count, hall-junctions, cuts-length}
 
-ascends-few : (a l : ℕ) (ns : List ℕ) → a ≤ suc l → ascends-from a l ns ≡ true → a + length ns ≤ suc l
-ascends-few a l [] h e = omega arith
-ascends-few a l (i ∷ is) h e =
-    omega (arith, ascends-low a l i is e, ascends-few (suc i) l is (omega (arith, ascends-high a l i is e)) (ascends-rest a l i is e))
-
 -- a choice has at most as many rows as the hall
 pub choice-few : (r : HallRecord) (ns : List ℕ) → is-choice (hall-of r) ns ≡ true → length ns ≤ r .count
-choice-few r ns e = omega (arith, hall-count r, ascends-few 1 (count (hall-of r)) ns (omega arith) (choice-ascends (hall-of r) ns e))
+choice-few r ns e = omega (arith, hall-count r, choice-length (hall-of r) ns e)
 
 pub choice-parts : (h : Hall) (c : List ℕ) → choice-lines h c ≡ text (number-line (79 ∷ 80 ∷ 69 ∷ 78 ∷ 32 ∷ []) (length c) ∷ each (row-line h) c ∷ [])
 unfolding choice-lines open-word

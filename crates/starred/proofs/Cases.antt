@@ -1,6 +1,6 @@
 -- THE STARRED HALLS, halls with loops and halls with fixed rows: each answers as expected. One computed test over each list, and a law that turns a passed test into the facts. Assumes nothing.
 use mathlib.Core.Path.{_≡_, refl}
-use mathlib.Core.Bool.{true, not}
+use mathlib.Core.Bool.{true, not, xor}
 use mathlib.Core.List.{List}
 use Prim.Native.Nat.{ℕ}
 use lib.IntN.{ℤ}
@@ -14,7 +14,7 @@ use Rattle.hall.specs.File.{value, field, blocks, offset, long-of, pairs-good, 
 use Rattle.hall.specs.Plan.{total, earlier, goes-before, Cut, cut, crosses-from, cross, none-cross, cuts-good, load, loads-fit, weight-sum, most-cuts, level-sum, difference, levels-from, levels}
 use Rattle.joining.specs.Promise.{all-bytes, accepted}
 use Rattle.starred.specs.Layout.{bytes-of, price-field, rows-bytes, blocks-bytes, file-of}
-use Rattle.starred.specs.Trying.{every-ascending, not-after, is-first, is-beside, same-mark, same-row, same-hall, same-refusal, same-signed, is-some}
+use Rattle.starred.specs.Trying.{every-ascending, not-after, is-first, is-beside, same-row, same-hall, same-refusal, same-signed, is-some}
 use Rattle.starred.specs.Cases.{Starred-hold, Looped-hold, Fixed-hold, Expected, refused, opens, ties, misses, unchosen, Case, Accepted, Planned-as, Ties, Misses, Answers, Says, accepted-tests, opens-tests, ties-tests, misses-tests, answered, case-tests, holds-of, drawn, junctions-of, printed-hall, printed-file, printed, square, half-open, starred, looped, fixed}
 use Rattle.starred.proofs.Same.{hall-same, refusal-same, levels-same, some-same}
 use Rattle.starred.proofs.Trying.{first-by-trying, beside-by-test}
@@ -88,12 +88,12 @@ cases-by-test = each-in holds-of Says says-by-test
 
 -- the test, computed over all three lists
 cases-pass : (all-in holds-of starred ≡ true) × (all-in holds-of looped ≡ true) × (all-in holds-of fixed ≡ true)
-unfolding all-in all-of same-list holds with-junction
+unfolding xor all-in all-of same-list holds with-junction
     row-of fixed-row hall row count enters leaves any-leaves is-cut ascends-from none-fixed is-choice unfixed-from unfixed entering meets-from meets-all member over-rows spread reached first-short missed is-none joins
     value field blocks offset long-of pairs-good row-in rows-at all-rows hall-in refusal or-else row-number rows-refusal all-numbers connected openable hall-refusal
     total earlier goes-before cut crosses-from cross none-cross cuts-good load loads-fit weight-sum most-cuts level-sum difference levels-from levels
     all-bytes accepted bytes-of price-field rows-bytes blocks-bytes file-of
-    every-ascending not-after is-first is-beside same-mark same-row same-hall same-refusal same-signed is-some
+    every-ascending not-after is-first is-beside same-row same-hall same-refusal same-signed is-some
     accepted-tests opens-tests ties-tests misses-tests answered case-tests holds-of drawn junctions-of printed-hall printed-file printed square half-open starred looped fixed
 cases-pass = (refl, refl, refl)
 

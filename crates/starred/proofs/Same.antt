@@ -1,6 +1,6 @@
 -- Rows, halls, refusals, signed numbers and lists that pass the test of sameness are equal. Assumes nothing.
 use mathlib.Core.Path.{_≡_, refl}
-use mathlib.Core.Bool.{Bool, true, false}
+use mathlib.Core.Bool.{Bool, true, false, not, xor}
 use mathlib.Core.List.{List, [], _∷_}
 use mathlib.Core.Option.{Option, none, some}
 use Prim.Native.Nat.{ℕ}
@@ -12,13 +12,13 @@ use Rattle.laws.proofs.Booleans.{clash}
 use Rattle.laws.proofs.Lists.{all-of-at, same-list-true}
 use Rattle.hall.specs.Hall.{Row, Hall, hall}
 use Rattle.hall.specs.File.{Refusal, refusal}
-use Rattle.starred.specs.Trying.{same-mark, same-row, same-hall, same-refusal, same-signed, is-some}
+use Rattle.starred.specs.Trying.{same-row, same-hall, same-refusal, same-signed, is-some}
 
 pub numbers-same : (c d : List ℕ) → same-list eqb c d ≡ true → c ≡ d
 numbers-same = same-list-true eqb eqb-true
 
-mark-same : (a b : Bool) → same-mark a b ≡ true → a ≡ b
-unfolding same-mark
+mark-same : (a b : Bool) → not (xor a b) ≡ true → a ≡ b
+unfolding xor
 mark-same true true t = refl
 mark-same true false t = clash t refl
 mark-same false true t = clash t refl
@@ -31,7 +31,7 @@ row-with a b p m = record { from = a; to = b; price = p; fixed = m }
 row-same : (r s : Row) → same-row r s ≡ true → r ≡ s
 unfolding same-row row-with
 row-same r s t =
-    let same = all-of-at (eqb (r .from) (s .from) ∷ eqb (r .to) (s .to) ∷ eqb (r .price) (s .price) ∷ same-mark (r .fixed) (s .fixed) ∷ []) t in
+    let same = all-of-at (eqb (r .from) (s .from) ∷ eqb (r .to) (s .to) ∷ eqb (r .price) (s .price) ∷ not (xor (r .fixed) (s .fixed)) ∷ []) t in
     let from = eqb-true (r .from) (s .from) (same 0) in
     let to = eqb-true (r .to) (s .to) (same 1) in
     let price = eqb-true (r .price) (s .price) (same 2) in

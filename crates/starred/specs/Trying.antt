@@ -1,5 +1,5 @@
 -- Tests that find out by trying: the first choice, the cuts beside it, and whether two things are the same. Assumes nothing: these are definitions.
-use mathlib.Core.Bool.{Bool, true, false, _&&_, _||_, not}
+use mathlib.Core.Bool.{Bool, false, _&&_, _||_, not, xor}
 use mathlib.Core.List.{List, [], _∷_}
 use mathlib.Core.Option.{Option, none, some}
 use Prim.Native.Nat.{ℕ, zero, suc}
@@ -28,14 +28,9 @@ is-first h c = all-of (is-choice h c ∷ joins h c ∷ every-ascending (count h)
 unfoldable pub is-beside : Hall → (c : List ℕ) → List Cut → Bool
 is-beside h c ks = all-of (cuts-good h 1 ks ∷ leb (length ks) (most-cuts (h .n)) ∷ loads-fit ks (h .rows) ∷ eqb (weight-sum ks) (total h c) ∷ [])
 
--- two marks are the same
-unfoldable pub same-mark : (a b : Bool) → Bool
-same-mark true b = b
-same-mark false b = not b
-
 -- two rows are the same
 unfoldable pub same-row : (r s : Row) → Bool
-same-row r s = all-of (eqb (r .from) (s .from) ∷ eqb (r .to) (s .to) ∷ eqb (r .price) (s .price) ∷ same-mark (r .fixed) (s .fixed) ∷ [])
+same-row r s = all-of (eqb (r .from) (s .from) ∷ eqb (r .to) (s .to) ∷ eqb (r .price) (s .price) ∷ not (xor (r .fixed) (s .fixed)) ∷ [])
 
 -- two halls are the same
 unfoldable pub same-hall : (g h : Hall) → Bool

@@ -6,7 +6,7 @@ use Rattle.laws.specs.Lists.{at}
 use Rattle.hall.specs.Hall.{Hall}
 use Rattle.hall.specs.File.{hall-in}
 use Rattle.hall.specs.Plan.{First}
-use Rattle.choicelists.specs.Listed.{listed}
+use Rattle.dicuts.specs.Listed.{listed}
 use Rattle.columns.specs.Columns.{Ends, flagged}
 use Rattle.cuts.specs.Beside.{highest, Beside-rows}
 use Rattle.cuts.specs.Thresholds.{Under-top}

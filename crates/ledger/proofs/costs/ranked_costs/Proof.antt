@@ -2,8 +2,9 @@
 use mathlib.Core.Path.{ap}
 use Prim.Native.Nat.{ℕ, _+_, _*_, _-_, _≤_}
 use native.Mathlib.Omega.{arith}
+use Rattle.order.proofs.Ranked.{charge-most}
 use Rattle.ledger.specs.Padded.{Padded, charged}
-use Rattle.ledger.proofs.Padded.{padded-none, padded-more, padded-all, charged-low}
+use Rattle.ledger.proofs.Padded.{padded-none, padded-more, padded-all}
 use borrow.Author.Needs.{needs}
 use Rattle.ledger.proofs.costs.ranked_costs.Statement.{statement}
 use Rattle.ledger.proofs.costs.ranked_costs.Tie as tie
@@ -20,8 +21,7 @@ at-loop c = c .before .before .before .before
 
 -- that charge
 small : (c : tie.After-charge Inv-loop μ-loop) → c .charge .result ≤ 256000001
-small c = let l = at-loop c in let a = l .before .args in
-    omega (arith, c .charge .ensures, charged-low (a .prices .now) (a .fixed .now) (l .loop .k) (l .before .pre .1 (l .loop .k) (c .before .before .before .loop-test .taken)))
+small c = let l = at-loop c in rw (c .charge .ensures) (charge-most _ _ (l .before .pre .1 (l .loop .k) (c .before .before .before .loop-test .taken)))
 
 loop-holds : tie.Need-loop-holds Inv-loop μ-loop
 loop-holds c = let a = c .args in (omega arith, padded-none 256 (λ (i : ℕ). 257 * charged (a .prices .now) (a .fixed .now) i + 1))

@@ -1,9 +1,9 @@
--- Sets of rows listed as choices, and which of two sets has the first row in which they differ. Assumes nothing: these are definitions.
+-- Sets of rows listed by their numbers, and sets without fixed rows. Assumes nothing: these are definitions.
 use mathlib.Core.Path.{_≡_}
 use mathlib.Core.Bool.{Bool, true, false, cond}
 use mathlib.Core.List.{List, [], _∷_}
-use Prim.Native.Nat.{ℕ, zero, suc, _≤_, _<_}
-use Rattle.hall.specs.Hall.{Hall, count}
+use Prim.Native.Nat.{ℕ, zero, suc, _≤_}
+use Rattle.hall.specs.Hall.{Hall, row, count}
 
 -- of the next `left` numbers from a on, those that pass the test, ascending
 unfoldable pub passing : (left a : ℕ) → (ℕ → Bool) → List ℕ
@@ -14,11 +14,6 @@ passing (suc k) a F = cond (F a) (a ∷ passing k (suc a) F) (passing k (suc a) 
 unfoldable pub listed : Hall → (rows : ℕ → Bool) → List ℕ
 listed h F = passing (count h) 1 F
 
--- of the numbers 1 to m, the first in which the two sets differ is in F
-pub record Differs-first (m : ℕ) (F G : ℕ → Bool) : Type 0 where
-  pub at : ℕ
-  pub low : 1 ≤ at
-  pub high : at ≤ m
-  pub has : F at ≡ true
-  pub lacks : G at ≡ false
-  pub same : (j : ℕ) → 1 ≤ j → j < at → F j ≡ G j
+-- no row of the set is fixed
+abbrev pub None-fixed : Hall → (rows : ℕ → Bool) → Type 0
+None-fixed h F = (i : ℕ) → 1 ≤ i → i ≤ count h → F i ≡ true → row h i .fixed ≡ false

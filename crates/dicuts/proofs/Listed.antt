@@ -1,24 +1,14 @@
 -- A set of rows is listed in ascending order, with its rows as members; it is a choice where none of them is fixed. Assumes nothing.
 use mathlib.Core.Path.{_≡_, refl, sym, ap, _∙_}
-use mathlib.Core.Bool.{Bool, true, false}
-use mathlib.Core.List.{List, _∷_}
+use mathlib.Core.Bool.{Bool, true}
 use Prim.Native.Nat.{ℕ, zero, suc, _+_, _≤_, _<_}
 use native.Mathlib.Omega.{arith}
 use lib.Dec.{eqb}
-use borrow.Author.Tests.{eq-eqb, eqb-true, eqb-false}
+use borrow.Author.Tests.{eqb-true, eqb-false}
 use Rattle.laws.proofs.Booleans.{by-bool}
-use Rattle.hall.specs.Hall.{Hall, row, count, ascends-from, is-choice, member}
-use Rattle.dicuts.proofs.Choices.{ascends-high, ascends-rest, ascends-skips, ascends-cons, ascends-earlier, ascends-members, ascends-choice}
-use Rattle.choicelists.specs.Listed.{passing, listed}
-
--- members of an ascending list
-module _ (l : ℕ) where
-  pub member-head : (x : ℕ) (xs : List ℕ) → member x (x ∷ xs) ≡ true
-  unfolding member
-  member-head x xs = rw (eq-eqb x x refl)
-
-  pub member-under : (a y : ℕ) (ys : List ℕ) → ascends-from a l (y ∷ ys) ≡ true → (x : ℕ) → x < y → member x (y ∷ ys) ≡ false
-  member-under a y ys e x h = ascends-skips y l (y ∷ ys) x (ascends-cons y l y ys (omega arith) (ascends-high a l y ys e) (ascends-rest a l y ys e)) h
+use Rattle.hall.specs.Hall.{Hall, count, ascends-from, is-choice, member}
+use Rattle.dicuts.specs.Listed.{passing, listed, None-fixed}
+use Rattle.dicuts.proofs.Choices.{ascends-skips, ascends-cons, ascends-earlier, ascends-members, ascends-choice}
 
 -- the numbers that pass a test
 pub passing-ascends : (left a l : ℕ) (F : ℕ → Bool) → a + left ≤ suc l → ascends-from a l (passing left a F) ≡ true
@@ -51,7 +41,7 @@ module _ (h : Hall) where
   unfolding listed
   listed-member F i low high = passing-member (count h) 1 F i low (omega arith)
 
-  pub listed-choice : (F : ℕ → Bool) → ((i : ℕ) → 1 ≤ i → i ≤ count h → F i ≡ true → row h i .fixed ≡ false) → is-choice h (listed h F) ≡ true
+  pub listed-choice : (F : ℕ → Bool) → None-fixed h F → is-choice h (listed h F) ≡ true
   listed-choice F unfixed =
       ascends-choice h (listed h F) (listed-ascends F)
       (λ i t. let within = ascends-members (count h) 1 (listed h F) i (listed-ascends F) t in
