@@ -140,6 +140,12 @@ module _ (h : Hall) where
   unfolding is-choice
   ascends-choice c e f = and-i (ascends-from 1 (count h) c) (none-fixed h c) e (at-none-fixed c f)
 
+-- numbers that agree on the members have the same sum
+pub over-ext : (f g : ℕ → ℕ) (c : List ℕ) → ((i : ℕ) → member i c ≡ true → f i ≡ g i) → over f c ≡ over g c
+unfolding over
+over-ext f g [] same = refl
+over-ext f g (x ∷ xs) same = omega (arith, same x (member-head x xs), over-ext f g xs (λ i t. same i (member-rest i x xs t)))
+
 pub total-over : (h : Hall) (c : List ℕ) → total h c ≡ over (λ i. row h i .price) c
 unfolding total over
 total-over h [] = refl

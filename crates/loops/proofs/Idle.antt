@@ -6,12 +6,13 @@ use Prim.Native.Nat.{ℕ, zero, suc, _+_, _-_, _≤_, _<_}
 use native.Mathlib.Omega.{arith}
 use lib.Dec.{eqb}
 use lib.ListN.{length, getD}
-use borrow.Author.Tests.{eqb-true, eqb-false, ne-eqb}
+use borrow.Author.Tests.{eqb-true}
 use Rattle.laws.proofs.Booleans.{by-bool}
 use Rattle.junctions.specs.Sets.{holds, with-junction}
 use Rattle.hall.specs.Hall.{Row, Hall, row-of, row, enters, leaves, entering, member, over-rows, spread, reached, first-short, missed, tight, tight-from, tight-around}
 use Rattle.dicuts.proofs.Shores.{leaves-not}
 use Rattle.loops.specs.Loops.{left-out}
+use Rattle.loops.proofs.LeftOut.{left-out-member}
 
 module _ (r : Row) (loop : r .from ≡ r .to) where
   pub loop-enters : (s : ℕ) → enters s r ≡ false
@@ -26,14 +27,6 @@ module _ (r : Row) (loop : r .from ≡ r .to) where
   unfolding with-junction
   loop-back true s = by-bool (holds s (r .to)) (λ e. rw (loop, e)) (λ e. rw e)
   loop-back false s = refl
-
--- every other number stays
-member-left-out : (i v : ℕ) (c : List ℕ) → (v ≡ i → ⊥) → member v c ≡ member v (left-out i c)
-unfolding member left-out
-member-left-out i v [] ne = refl
-member-left-out i v (x ∷ xs) ne =
-    by-bool (eqb x i) (λ e. rw (e, ne-eqb x v (λ q. ne (omega (arith, q, eqb-true x i e)))) (member-left-out i v xs ne))
-    (λ e. rw (e, member-left-out i v xs ne))
 
 module _ (h : Hall) (i : ℕ) (low : 1 ≤ i) (loop : row h i .from ≡ row h i .to) (c : List ℕ) where
   entering-without : (s : ℕ) (d : List ℕ) → entering h s d ≡ entering h s (left-out i d)
@@ -65,7 +58,7 @@ module _ (h : Hall) (i : ℕ) (low : 1 ≤ i) (loop : row h i .from ≡ row h i 
       (λ e.
       let here = loop-back r (f 0 (omega arith) (omega (arith, eqb-true k i e))) in
       rw (here (member k c), here (member k (left-out i c))) (over-without (suc k) rs _ later))
-      (λ e. rw (member-left-out i k c (eqb-false k i e)) (over-without (suc k) rs _ later))
+      (λ e. rw (left-out-member i k c, e) (over-without (suc k) rs _ later))
     where
       later : Loop-in (suc k) rs
       later m l q = f (suc m) (omega arith) (omega arith)

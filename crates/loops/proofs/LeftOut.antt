@@ -1,13 +1,13 @@
 -- A choice without one of its rows is a choice of fewer rows that costs no more. Assumes nothing.
-use mathlib.Core.Path.{_≡_, refl}
-use mathlib.Core.Bool.{true}
+use mathlib.Core.Path.{_≡_, refl, sym, _∙_}
+use mathlib.Core.Bool.{true, not, _&&_}
 use mathlib.Core.List.{List, [], _∷_}
-use mathlib.Core.Logic.{⊎-elim}
 use Prim.Native.Nat.{ℕ, suc, _≤_, _<_}
 use native.Mathlib.Omega.{arith}
 use lib.Dec.{eqb}
 use lib.ListN.{length}
-use Rattle.laws.proofs.Booleans.{by-bool, clash, or-cases, or-l, or-r}
+use borrow.Author.Tests.{eqb-true, eqb-false, ne-eqb}
+use Rattle.laws.proofs.Booleans.{by-bool, clash, and-r}
 use Rattle.hall.specs.Hall.{Hall, count, ascends-from, is-choice, member}
 use Rattle.hall.specs.Plan.{total}
 use Rattle.dicuts.proofs.Choices.{ascends-low, ascends-high, ascends-rest, ascends-cons, ascends-earlier, choice-ascends, choice-unfixed, ascends-choice}
@@ -23,17 +23,22 @@ module _ (i : ℕ) where
       by-bool (eqb x i) (λ e. rw e (ascends-earlier a (suc x) l (left-out i xs) (omega arith) rest))
       (λ e. rw e (ascends-cons a l x (left-out i xs) low (ascends-high a l x xs t) rest))
 
-  left-out-member : (c : List ℕ) (j : ℕ) → member j (left-out i c) ≡ true → member j c ≡ true
+  -- i goes, every other number stays
+  pub left-out-member : (v : ℕ) (c : List ℕ) → member v (left-out i c) ≡ (not (eqb v i) && member v c)
   unfolding left-out member
-  left-out-member [] j t = t
-  left-out-member (x ∷ xs) j t =
-      by-bool (eqb x i) (λ e. or-r (eqb x j) (member j xs) (left-out-member xs j (rw e at t)))
-      (λ e. ⊎-elim (λ (q : eqb x j ≡ true). or-l (eqb x j) (member j xs) q)
-      (λ (q : member j (left-out i xs) ≡ true). or-r (eqb x j) (member j xs) (left-out-member xs j q)) (or-cases (eqb x j) (member j (left-out i xs)) (rw e at t)))
+  left-out-member v [] = by-bool (eqb v i) (λ q. rw q) (λ q. rw q)
+  left-out-member v (x ∷ xs) =
+      by-bool (eqb v i)
+      (λ q.
+      by-bool (eqb x i) (λ e. rw (e, left-out-member v xs, q))
+      (λ e. rw (e, ne-eqb x v (λ z. eqb-false x i e (omega (arith, eqb-true v i q))), left-out-member v xs, q)))
+      (λ q.
+      by-bool (eqb x i) (λ e. rw (e, ne-eqb x v (λ z. eqb-false v i q (omega (arith, eqb-true x i e))), left-out-member v xs, q))
+      (λ e. rw (e, left-out-member v xs, q)))
 
   pub left-out-is-choice : (h : Hall) (c : List ℕ) → is-choice h c ≡ true → is-choice h (left-out i c) ≡ true
   left-out-is-choice h c t =
-      ascends-choice h (left-out i c) (left-out-ascends 1 (count h) c (choice-ascends h c t)) (λ j m. choice-unfixed h c j t (left-out-member c j m))
+      ascends-choice h (left-out i c) (left-out-ascends 1 (count h) c (choice-ascends h c t)) (λ j m. choice-unfixed h c j t (and-r (not (eqb j i)) (member j c) (sym (left-out-member j c) ∙ m)))
 
   left-out-length : (c : List ℕ) → length (left-out i c) ≤ length c
   unfolding left-out

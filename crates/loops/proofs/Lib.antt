@@ -1,3 +1,3 @@
-pub mod Idle
 pub mod LeftOut
+pub mod Idle
 pub mod Promise

@@ -1,17 +1,15 @@
 -- With at most 256 rows, the ranked cost orders choices by total, then by row count. Assumes nothing.
-use mathlib.Core.Path.{_≡_, refl}
-use mathlib.Core.Bool.{Bool, true, false, not}
+use mathlib.Core.Path.{_≡_, refl, sym, _∙_}
+use mathlib.Core.Bool.{Bool, true, false}
 use mathlib.Core.List.{List, [], _∷_}
 use mathlib.Core.Logic.{_⊎_, inl, inr, ⊎-elim}
 use Prim.Native.Nat.{ℕ, _+_, _*_, _<_, _≤_}
 use native.Mathlib.Omega.{arith}
 use lib.ListN.{length}
-use borrow.Author.Tests.{not-true}
 use Rattle.laws.proofs.Numbers.{compare-numbers}
-use Rattle.laws.proofs.Booleans.{and-l, and-r}
-use Rattle.hall.specs.Hall.{Hall, row, count, ascends-from, none-fixed, is-choice}
+use Rattle.hall.specs.Hall.{Hall, row, count, is-choice}
 use Rattle.hall.specs.Plan.{total, earlier, goes-before}
-use Rattle.dicuts.proofs.Choices.{over, choice-length}
+use Rattle.dicuts.proofs.Choices.{over, over-ext, choice-length, choice-unfixed, total-over}
 use Rattle.order.specs.Precedes.{by-total, by-length, by-dictionary}
 use Rattle.order.specs.Ranked.{charge-of, charge, ranked}
 use Rattle.order.proofs.Before.{before-of}
@@ -31,20 +29,9 @@ pub charge-fixed : (h : Hall) (i : ℕ) → row h i .fixed ≡ true → charge h
 unfolding charge charge-of
 charge-fixed h i e = rw e
 
-charge-sum : (h : Hall) (c : List ℕ) → none-fixed h c ≡ true → over (charge h) c ≡ total h c
-unfolding over total none-fixed
-charge-sum h [] e = refl
-charge-sum h (i ∷ is) e =
-    omega (
-      arith,
-      charge-price h i (not-true (row h i .fixed) (and-l (not (row h i .fixed)) (none-fixed h is) e)),
-      charge-sum h is (and-r (not (row h i .fixed)) (none-fixed h is) e),
-    )
-
 -- the charges of a choice are its total
 pub charge-total : (h : Hall) (c : List ℕ) → is-choice h c ≡ true → over (charge h) c ≡ total h c
-unfolding is-choice
-charge-total h c e = charge-sum h c (and-r (ascends-from 1 (count h) c) (none-fixed h c) e)
+charge-total h c e = over-ext (charge h) (λ i. row h i .price) c (λ i t. charge-price h i (choice-unfixed h c i e t)) ∙ sym (total-over h c)
 
 pub ranked-charges : (h : Hall) (c : List ℕ) → over (ranked h) c ≡ 257 * over (charge h) c + length c
 unfolding over ranked
