@@ -2,7 +2,9 @@
 use mathlib.Core.Path.{_≡_}
 use mathlib.Core.Bool.{true}
 use mathlib.Core.List.{List, [], _∷_}
+use mathlib.Core.Option.{Option, none, some}
 use Prim.Native.Nat.{ℕ, suc, _≤_, _<_}
+use lib.ListN.{length}
 use Rattle.junctions.specs.Sets.{holds}
 
 -- FEWEST ARCS from the start to each junction; n or more where no arcs lead there
@@ -17,6 +19,12 @@ pub record Distances (n : ℕ) (out : ℕ → ℕ) (start : ℕ) (dist : ℕ →
 unfoldable pub Walk : (n : ℕ) → (out : ℕ → ℕ) → (x : ℕ) → List ℕ → (y : ℕ) → Type 0
 Walk n out x [] y = x ≡ y
 Walk n out x (w ∷ ws) y = (1 ≤ w) × (w ≤ n) × (holds (out x) w ≡ true) × Walk n out w ws y
+
+-- THE FEWEST ARCS from x to y, or that none lead there
+unfoldable pub Fewest : (n : ℕ) → (out : ℕ → ℕ) → (x y : ℕ) → Option ℕ → Type 0
+Fewest n out x y none = (ws : List ℕ) → Walk n out x ws y → ⊥
+Fewest n out x y (some k) =
+    ((ws : List ℕ) × Walk n out x ws y × (length ws ≡ k)) × ((ws : List ℕ) → Walk n out x ws y → k ≤ length ws)
 
 -- a walk on which the distance grows by one at each step, so that no walk to its end has fewer arcs
 unfoldable pub Climb : (n : ℕ) → (out dist : ℕ → ℕ) → (x : ℕ) → List ℕ → (y : ℕ) → Type 0
