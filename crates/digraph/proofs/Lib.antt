@@ -8,3 +8,4 @@ pub mod Layers
 pub mod Rest
 pub mod Breadth
 pub mod Backward
+pub mod Walks
