@@ -1,12 +1,13 @@
--- Each layer is what arcs from the last one find beyond what was seen; when a layer is empty every distance is marked. Assumes nothing.
-use mathlib.Core.Path.{_≡_, sym, ap, _∙_}
+-- Each layer is what arcs from the last one find beyond what is done; when a layer is empty all that arcs lead to is done. Assumes nothing.
+use mathlib.Core.Path.{_≡_, refl, sym, ap, _∙_}
 use mathlib.Core.Bool.{true, false, _&&_, _||_, not, cond}
-use mathlib.Core.Logic.{⊎-elim}
+use mathlib.Core.Logic.{_⊎_, ⊎-elim}
 use Prim.Native.Nat.{ℕ, suc, _-_, _^_, _≤_, _<_}
 use native.Mathlib.Omega.{arith}
-use lib.Dec.{eqb, ltb, leb}
-use borrow.Author.Tests.{eq-eqb, eqb-true, ltb-true, ltb-false, leb-true, leb-false, not-true}
-use Rattle.laws.proofs.Booleans.{by-bool, clash, and-l, and-r, and-i, or-cases, or-l, or-r, not-true-false, bool-ext, cond-true, cond-false}
+use lib.Dec.{eqb, ltb}
+use borrow.Author.Tests.{eq-eqb, eqb-true, ltb-true, ltb-false, not-true}
+use Rattle.laws.proofs.Booleans.{by-bool, clash, and-l, and-r, and-i, or-cases, or-l, or-r, or-false-l, or-false-r, not-true-false, bool-ext, cond-true, cond-false}
+use Rattle.laws.proofs.Connectives.{or-false-i}
 use Rattle.junctions.proofs.Sets.{one-holds, none-holds, some-junction}
 use Rattle.junctions.specs.Sets.{holds}
 use Rattle.digraph.specs.Closure.{arc-from}
@@ -41,109 +42,92 @@ arc-from-none n out s y e =
     not-true-false (arc-from n out s y)
     (λ t. let w = arc-from-found n out s y t in clash (w .3) (ap (λ (r : ℕ). holds r (w .0)) e ∙ none-holds (w .0)))
 
--- distances that agree on 1 to n
-pub distances-ext : (n : ℕ) (out : ℕ → ℕ) (start : ℕ) (fewest dist : ℕ → ℕ) → 1 ≤ start → start ≤ n
-    → ((j : ℕ) → 1 ≤ j → j ≤ n → dist j ≡ fewest j) → Distances n out start fewest → Distances n out start dist
-distances-ext n out start fewest dist l m same d = record {
-  here = same start l m ∙ d .here;
-  alone = λ y p q z. d .alone y p q (sym (same y p q) ∙ z);
-  ahead = λ x y a b p q h. omega (arith, same x a b, same y p q, d .ahead x y a b p q h);
-  behind = λ y p q z h.
-      let w = d .behind y p q (omega (arith, same y p q)) (omega (arith, same y p q)) in
-      (w .0, w .1, w .2, omega (arith, w .3, same y p q, same (w .0) (w .1) (w .2)), w .4);
-}
-
 pub before-there : (n : ℕ) (out : ℕ → ℕ) (start : ℕ) (dist : ℕ → ℕ) → Distances n out start dist
     → (y : ℕ) → 1 ≤ y → y ≤ n → 0 < dist y → dist y < n → (x : ℕ) × Before n out dist y x
 before-there n out start dist d y l m p h =
     let w = d .behind y l m p h in
     (w .0, record { from-one = w .1; to-last = w .2; closer = w .3; arc = w .4 })
 
-module _ (n : ℕ) (out : ℕ → ℕ) (start : ℕ) (from-one : 1 ≤ start) (to-last : start ≤ n) (fewest : ℕ → ℕ)
-    (d : Distances n out start fewest) (bounded : (j : ℕ) → fewest j ≤ n) where
-  pub layers-start : (dist : ℕ → ℕ) → ((j : ℕ) → 1 ≤ j → j ≤ n → dist j ≡ n) → Layered n fewest dist (2 ^ (start - 1)) (2 ^ (start - 1)) 0
-  layers-start dist none = record {
-    layer-in = λ j l m t. (zero-there j l t, omega arith);
-    layer-has = λ j l m e p. zero-has j l m e;
-    seen-in = λ j l m t. omega (arith, zero-there j l t);
-    seen-has = λ j l m e p. zero-has j l m (omega arith);
-    marked = λ j l m p. absurd (omega arith);
-    unmarked = λ j l m p. none j l m;
+module _ (n : ℕ) (out : ℕ → ℕ) (start : ℕ) (from-one : 1 ≤ start) (to-last : start ≤ n) (fewest : ℕ → ℕ) (d : Distances n out start fewest)
+    (before : ℕ → ℕ) (goal : ℕ) where
+  pub layers-start : Layered n fewest before before goal (2 ^ (start - 1)) 0 0
+  layers-start = record {
+    layer-in = λ j l m t. (ap fewest (eqb-true j start (sym (one-holds j start l from-one) ∙ t)) ∙ d .here, omega arith);
+    layer-has = λ j l m e p. one-holds j start l from-one ∙ eq-eqb j start (d .alone j l m e);
+    done-in = λ j l m t. clash t (none-holds j);
+    done-has = λ j l m p. absurd (omega arith);
+    marked = λ j l m t. clash t (none-holds j);
+    kept = λ j l m f. refl;
+    clear = λ j l g. none-holds j;
   }
-    where
-      zero-there : (j : ℕ) → 1 ≤ j → holds (2 ^ (start - 1)) j ≡ true → fewest j ≡ 0
-      zero-there j l t = ap fewest (eqb-true j start (sym (one-holds j start l from-one) ∙ t)) ∙ d .here
 
-      zero-has : (j : ℕ) → 1 ≤ j → j ≤ n → fewest j ≡ 0 → holds (2 ^ (start - 1)) j ≡ true
-      zero-has j l m e = one-holds j start l from-one ∙ eq-eqb j start (d .alone j l m e)
-
-  module _ (dist : ℕ → ℕ) (layer seen k : ℕ) (s : Layered n fewest dist layer seen k) where
+  module _ (dist : ℕ → ℕ) (layer done k : ℕ) (s : Layered n fewest before dist goal layer done k) where
     -- a layer that is not empty is not the n-th
     pub layer-below : 0 < layer → layer < 2 ^ n → k < n
     layer-below p h = let w = some-junction n layer p h in s .layer-in (w .0) (w .1) (w .2) (w .3) .1
 
-    module _ (dist′ : ℕ → ℕ) (layer′ seen′ : ℕ)
+    -- once a layer is empty, all that arcs lead to is done
+    pub layers-end : layer ≡ 0 → (j : ℕ) → 1 ≤ j → j ≤ n → fewest j < n → holds done j ≡ true
+    layers-end e j l m less =
+        by-bool (ltb (fewest j) k) (λ t. s .done-has j l m (ltb-true (fewest j) k t) less)
+        (λ f. let far = ltb-false (fewest j) k f in
+        let w = level n out start fewest d (fewest j - k) j l m less k (omega (arith, far)) in
+        clash (s .layer-has (w .0) (w .1) (w .2) (w .3) (omega (arith, far, less))) (ap (λ (r : ℕ). holds r (w .0)) e ∙ none-holds (w .0)))
+
+    module _ (dist′ : ℕ → ℕ) (layer′ done′ : ℕ) (unmet : (j : ℕ) → 1 ≤ j → holds goal j ≡ true → holds layer j ≡ false)
         (marks : (j : ℕ) → 1 ≤ j → j ≤ n → dist′ j ≡ cond (holds layer j) k (dist j))
-        (layer-is : (j : ℕ) → 1 ≤ j → holds layer′ j ≡ (arc-from n out layer j && not (holds seen j)))
-        (seen-is : (j : ℕ) → 1 ≤ j → holds seen′ j ≡ (holds seen j || holds layer′ j)) where
+        (done-is : (j : ℕ) → 1 ≤ j → holds done′ j ≡ (holds done j || holds layer j))
+        (layer-is : (j : ℕ) → 1 ≤ j → holds layer′ j ≡ (arc-from n out layer j && not (holds done′ j))) where
+      done-cases : (j : ℕ) → 1 ≤ j → holds done′ j ≡ true → (holds done j ≡ true) ⊎ (holds layer j ≡ true)
+      done-cases j l t = or-cases (holds done j) (holds layer j) (sym (done-is j l) ∙ t)
+
+      -- what is done then is what is nearer than the next layer
+      next-done-in : (j : ℕ) → 1 ≤ j → j ≤ n → holds done′ j ≡ true → (fewest j < suc k) × (fewest j < n)
+      next-done-in j l m t =
+          ⊎-elim (λ (e : holds done j ≡ true). let w = s .done-in j l m e in (omega (arith, w .0), w .1))
+          (λ (e : holds layer j ≡ true). let w = s .layer-in j l m e in (omega (arith, w .0), omega (arith, w .0, w .1)))
+          (done-cases j l t)
+
+      next-done-has : (j : ℕ) → 1 ≤ j → j ≤ n → fewest j < suc k → fewest j < n → holds done′ j ≡ true
+      next-done-has j l m p h =
+          done-is j l
+          ∙ by-bool (ltb (fewest j) k) (λ e. or-l (holds done j) (holds layer j) (s .done-has j l m (ltb-true (fewest j) k e) h))
+          (λ e. let x : fewest j ≡ k = omega (arith, ltb-false (fewest j) k e) in
+          or-r (holds done j) (holds layer j) (s .layer-has j l m x (omega (arith, x))))
+
       next-in : (j : ℕ) → 1 ≤ j → j ≤ n → holds layer′ j ≡ true → (fewest j ≡ suc k) × (suc k < n)
       next-in j l m t =
           let both = sym (layer-is j l) ∙ t in
-          let w = arc-from-found n out layer j (and-l (arc-from n out layer j) (not (holds seen j)) both) in
+          let w = arc-from-found n out layer j (and-l (arc-from n out layer j) (not (holds done′ j)) both) in
           let x = s .layer-in (w .0) (w .1) (w .2) (w .3) in
           let near : fewest j < n = near-arc n out start fewest d (w .0) j (w .1) (w .2) l m (omega (arith, x .0, x .1)) (w .4) in
           let step : fewest j ≤ suc (fewest (w .0)) = d .ahead (w .0) j (w .1) (w .2) l m (w .4) in
-          by-bool (leb (fewest j) k)
-          (λ e. clash (s .seen-has j l m (leb-true (fewest j) k e) near) (not-true (holds seen j) (and-r (arc-from n out layer j) (not (holds seen j)) both)))
-          (λ e. let far = leb-false (fewest j) k e in (omega (arith, far, step, x .0), omega (arith, far, near)))
+          by-bool (ltb (fewest j) (suc k))
+          (λ e. clash (next-done-has j l m (ltb-true (fewest j) (suc k) e) near) (not-true (holds done′ j) (and-r (arc-from n out layer j) (not (holds done′ j)) both)))
+          (λ e. let far = ltb-false (fewest j) (suc k) e in (omega (arith, far, step, x .0), omega (arith, far, near)))
 
       next-has : (j : ℕ) → 1 ≤ j → j ≤ n → fewest j ≡ suc k → suc k < n → holds layer′ j ≡ true
       next-has j l m e h =
           let w = d .behind j l m (omega (arith, e)) (omega (arith, e)) in
           layer-is j l
-          ∙ and-i (arc-from n out layer j) (not (holds seen j))
+          ∙ and-i (arc-from n out layer j) (not (holds done′ j))
           (arc-from-intro n out layer (w .0) j (w .1) (w .2) (s .layer-has (w .0) (w .1) (w .2) (omega (arith, w .3, e)) (omega arith)) (w .4))
-          (ap not (not-true-false (holds seen j) (λ t. omega (arith, s .seen-in j l m t, e))))
+          (ap not (not-true-false (holds done′ j) (λ t. omega (arith, next-done-in j l m t .0, e))))
 
-      keep : (j : ℕ) → 1 ≤ j → holds seen j ≡ true → holds seen′ j ≡ true
-      keep j l t = seen-is j l ∙ or-l (holds seen j) (holds layer′ j) t
-
-      pub layers-step : Layered n fewest dist′ layer′ seen′ (suc k)
+      pub layers-step : Layered n fewest before dist′ goal layer′ done′ (suc k)
       layers-step = record {
         layer-in = next-in;
         layer-has = next-has;
-        seen-in = λ j l m t.
-            ⊎-elim (λ (e : holds seen j ≡ true). omega (arith, s .seen-in j l m e)) (λ (e : holds layer′ j ≡ true). omega (arith, next-in j l m e .0))
-            (or-cases (holds seen j) (holds layer′ j) (sym (seen-is j l) ∙ t));
-        seen-has = λ j l m p h.
-            by-bool (leb (fewest j) k) (λ e. keep j l (s .seen-has j l m (leb-true (fewest j) k e) h))
-            (λ e. let x : fewest j ≡ suc k = omega (arith, leb-false (fewest j) k e) in
-            seen-is j l ∙ or-r (holds seen j) (holds layer′ j) (next-has j l m x (omega (arith, x))));
-        marked = λ j l m p.
+        done-in = next-done-in;
+        done-has = next-done-has;
+        marked = λ j l m t.
             by-bool (holds layer j)
-            (λ t. marks j l m ∙ cond-true (holds layer j) k (dist j) t ∙ sym (s .layer-in j l m t .0))
-            (λ f. marks j l m ∙ cond-false (holds layer j) k (dist j) f ∙ old j l m p f);
-        unmarked = λ j l m p.
-            marks j l m ∙ cond-false (holds layer j) k (dist j) (not-true-false (holds layer j) (λ t. omega (arith, s .layer-in j l m t .0)))
-            ∙ s .unmarked j l m (omega arith);
+            (λ a. marks j l m ∙ cond-true (holds layer j) k (dist j) a ∙ sym (s .layer-in j l m a .0))
+            (λ b. marks j l m ∙ cond-false (holds layer j) k (dist j) b
+            ∙ ⊎-elim (λ (e : holds done j ≡ true). s .marked j l m e) (λ (e : holds layer j ≡ true). clash e b) (done-cases j l t));
+        kept = λ j l m f.
+            let none = sym (done-is j l) ∙ f in
+            marks j l m ∙ cond-false (holds layer j) k (dist j) (or-false-r (holds done j) (holds layer j) none)
+            ∙ s .kept j l m (or-false-l (holds done j) (holds layer j) none);
+        clear = λ j l g. done-is j l ∙ or-false-i (holds done j) (holds layer j) (s .clear j l g) (unmet j l g);
       }
-        where
-          old : (j : ℕ) → 1 ≤ j → j ≤ n → fewest j < suc k → holds layer j ≡ false → dist j ≡ fewest j
-          old j l m p f =
-              by-bool (ltb (fewest j) k) (λ e. s .marked j l m (ltb-true (fewest j) k e))
-              (λ e. let x : fewest j ≡ k = omega (arith, ltb-false (fewest j) k e) in
-              by-bool (ltb k n) (λ b. clash (s .layer-has j l m x (ltb-true k n b)) f)
-              (λ b. let big : fewest j ≡ n = omega (arith, x, ltb-false k n b, bounded j) in s .unmarked j l m (omega (arith, x)) ∙ sym big))
-
-    pub layers-end : layer ≡ 0 → Distances n out start dist
-    layers-end e = distances-ext n out start fewest dist from-one to-last at d
-      where
-        at : (j : ℕ) → 1 ≤ j → j ≤ n → dist j ≡ fewest j
-        at j l m =
-            by-bool (ltb (fewest j) k) (λ t. s .marked j l m (ltb-true (fewest j) k t))
-            (λ f. let far = ltb-false (fewest j) k f in
-            by-bool (ltb (fewest j) n)
-            (λ b. let less = ltb-true (fewest j) n b in
-            let w = level n out start fewest d (fewest j - k) j l m less k (omega (arith, far)) in
-            clash (s .layer-has (w .0) (w .1) (w .2) (w .3) (omega (arith, far, less))) (ap (λ (r : ℕ). holds r (w .0)) e ∙ none-holds (w .0)))
-            (λ b. let big : fewest j ≡ n = omega (arith, ltb-false (fewest j) n b, bounded j) in s .unmarked j l m far ∙ sym big))

@@ -1,11 +1,11 @@
 pub mod Closure
-pub mod Search
-pub mod Expand
 pub mod Balls
 pub mod Same
 pub mod Paths
+pub mod Walks
 pub mod Layers
 pub mod Rest
+pub mod Stopped
 pub mod Breadth
+pub mod Reaching
 pub mod Backward
-pub mod Walks

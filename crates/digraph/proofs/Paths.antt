@@ -2,6 +2,7 @@
 use mathlib.Core.Path.{_≡_, refl, sym, ap, _∙_}
 use mathlib.Core.Bool.{true}
 use mathlib.Core.List.{List, [], _∷_}
+use mathlib.Core.Option.{none, some}
 use Prim.Native.Nat.{ℕ, zero, suc, _+_, _-_, _^_, _≤_, _<_}
 use native.Mathlib.Omega.{arith}
 use lib.Dec.{ltb}
@@ -14,7 +15,7 @@ use Rattle.junctions.proofs.Bounds.{junction-le}
 use Rattle.laws.specs.Finite.{count-below}
 use Rattle.junctions.specs.Sets.{holds, Within}
 use Rattle.digraph.specs.Reach.{Closed, Reach}
-use Rattle.digraph.specs.Paths.{Distances, Walk, Climb}
+use Rattle.digraph.specs.Paths.{Distances, Walk, Fewest, Climb}
 use Rattle.digraph.specs.Distances.{near}
 
 pub climb-walk : (n : ℕ) (out dist : ℕ → ℕ) (x : ℕ) (ws : List ℕ) (y : ℕ) → Climb n out dist x ws y → Walk n out x ws y
@@ -85,6 +86,23 @@ module _ (n : ℕ) (out : ℕ → ℕ) (start : ℕ) (dist : ℕ → ℕ) (d : D
       by-bool (ltb (suc (dist x)) n)
       (λ t. omega (arith, ltb-true (suc (dist x)) n t, d .ahead x y l m p q a))
       (λ f. near-all x l m (omega (arith, ltb-false (suc (dist x)) n f)) y p q)
+
+  -- a walk from a junction at a distance leads to one
+  walk-near : (x : ℕ) → 1 ≤ x → x ≤ n → dist x < n → (ws : List ℕ) (y : ℕ) → Walk n out x ws y → dist y < n
+  unfolding Walk
+  walk-near x l m h [] y c = omega (arith, h, ap dist c)
+  walk-near x l m h (w ∷ ws) y c = walk-near w (c .0) (c .1) (near-arc x w l m (c .0) (c .1) h (c .2)) ws y (c .3)
+
+  -- the distance is the fewest arcs to each junction, and to those at no distance none lead
+  pub near-fewest : 1 ≤ start → start ≤ n → (y : ℕ) → 1 ≤ y → y ≤ n → dist y < n → Fewest n out start y (some (dist y))
+  unfolding Fewest
+  near-fewest s b y l m h =
+      let w = descend y l m h in
+      ((w .0, climb-walk n out dist start (w .0) y (w .1), w .2), λ ws c. fewest s b ws y c)
+
+  pub far-none : 1 ≤ start → start ≤ n → (y : ℕ) → n ≤ dist y → Fewest n out start y none
+  unfolding Fewest
+  far-none s b y h ws c = omega (arith, walk-near start s b (omega (arith, d .here)) ws y c)
 
   pub near-holds : (y : ℕ) → 1 ≤ y → y ≤ n → holds (near n dist) y ≡ ltb (dist y) n
   unfolding near

@@ -23,6 +23,15 @@ walk-join n out x [] y z c l m a = (z ∷ [], (l, m, ap (λ (i : ℕ). holds (ou
 walk-join n out x (w ∷ ws) y z c l m a =
     let v = walk-join n out w ws y z (c .3) l m a in (w ∷ v .0, (c .0, c .1, c .2, v .1), omega (arith, v .2))
 
+-- the last arc of a walk, and the walk before it
+pub walk-last : (n : ℕ) (out : ℕ → ℕ) (x : ℕ) → 1 ≤ x → x ≤ n → (w : ℕ) (ws : List ℕ) (y : ℕ) → Walk n out x (w ∷ ws) y
+    → (z : ℕ) × (1 ≤ z) × (z ≤ n) × (holds (out z) y ≡ true) × ((vs : List ℕ) × Walk n out x vs z × (length vs ≡ length ws))
+unfolding Walk
+walk-last n out x l m w [] y c = (x, l, m, ap (holds (out x)) (sym (c .3)) ∙ c .2, ([], refl, refl))
+walk-last n out x l m w (v ∷ ws) y c =
+    let last = walk-last n out w (c .0) (c .1) v ws y (c .3) in
+    (last .0, last .1, last .2, last .3, (w ∷ last .4 .0, (c .0, c .1, c .2, last .4 .1), omega (arith, last .4 .2)))
+
 -- where the walks of one adjacency have others with as many arcs, and these the first, as few arcs are enough
 pub fewest-as : (n m : ℕ) (out to : ℕ → ℕ) (x y u v : ℕ)
     → ((ws : List ℕ) → Walk n out x ws y → (vs : List ℕ) × Walk m to u vs v × (length vs ≡ length ws))
@@ -82,15 +91,17 @@ fewest-back n out rev turned x y l m p q =
     fewest-as n n rev out y x x y (λ ws. walk-back n out rev turned y p q ws x)
     (λ vs. walk-back n rev out (λ u v r s t w. sym (turned v u t w r s)) x l m vs y)
 
+-- a walk does not lead out of a closed set
+pub walk-closed : (n : ℕ) (out : ℕ → ℕ) (t : ℕ) → Closed n out t
+    → (x : ℕ) → 1 ≤ x → x ≤ n → holds t x ≡ true → (ws : List ℕ) (y : ℕ) → Walk n out x ws y → holds t y ≡ true
+unfolding Walk Closed Within
+walk-closed n out t shut x l m h [] y c = ap (holds t) (sym c) ∙ h
+walk-closed n out t shut x l m h (w ∷ ws) y c = walk-closed n out t shut w (c .0) (c .1) (shut x l m h w (c .0) (c .2)) ws y (c .3)
+
 -- walks lead to exactly what is reached
 module _ (n : ℕ) (out : ℕ → ℕ) (start r : ℕ) (low : 1 ≤ start) (high : start ≤ n) (reach : Reach n out (2 ^ (start - 1)) r) where
-  walk-keeps : (x : ℕ) → 1 ≤ x → x ≤ n → holds r x ≡ true → (ws : List ℕ) (y : ℕ) → Walk n out x ws y → holds r y ≡ true
-  unfolding Walk Closed Within
-  walk-keeps x l m t [] y c = ap (holds r) (sym c) ∙ t
-  walk-keeps x l m t (w ∷ ws) y c = walk-keeps w (c .0) (c .1) (reach .closed x l m t w (c .0) (c .2)) ws y (c .3)
-
   pub walk-reached : (ws : List ℕ) (y : ℕ) → Walk n out start ws y → holds r y ≡ true
-  walk-reached = walk-keeps start low high (start-reached n out start r low reach)
+  walk-reached = walk-closed n out r (reach .closed) start low high (start-reached n out start r low reach)
 
   pub reached-walk : ((j : ℕ) → 1 ≤ j → j ≤ n → out j < 2 ^ n) → (y : ℕ) → 1 ≤ y → y ≤ n → holds r y ≡ true → (ws : List ℕ) × Walk n out start ws y
   reached-walk ranged y l m t =

@@ -8,6 +8,7 @@ use Rattle.laws.specs.Lists.{at}
 use Rattle.junctions.specs.Sets.{holds}
 use Rattle.digraph.specs.Closure.{arc-from}
 use Rattle.digraph.specs.Distances.{distances}
+use Rattle.digraph.specs.Search.{avoiding}
 use Rattle.digraph.specs.Layers.{Layered, Before}
 
 -- what is found, with what arcs from the rest lead to, is what arcs from the whole set lead to
@@ -18,9 +19,10 @@ Spreading out from found rest = (y : ℕ) → (holds found y || arc-from 64 out 
 abbrev pub Marking : (before now : List ℕ) → (all rest d : ℕ) → Type 0
 Marking before now all rest d = (j : ℕ) → 1 ≤ j → j ≤ 64 → cond (holds rest j) d (at now j) ≡ cond (holds all j) d (at before j)
 
--- d layers are marked in the list
-abbrev pub Turn : (out : ℕ → ℕ) → (start : ℕ) → (dist : List ℕ) → (layer seen d : ℕ) → Type 0
-Turn out start dist layer seen d = (layer < 2 ^ 64) × (length dist ≡ 64) × Layered 64 (distances 64 out start) (at dist) layer seen d
+-- d layers from the start are done and marked in the list, over arcs that avoid the set
+abbrev pub Turn : (out : ℕ → ℕ) → (start set goal : ℕ) → (before dist : List ℕ) → (layer done d : ℕ) → Type 0
+Turn out start set goal before dist layer done d =
+    (layer < 2 ^ 64) × (length dist ≡ 64) × Layered 64 (distances 64 (avoiding set out) start) (at before) (at dist) goal layer done d
 
 -- a junction one arc before y is x or a later one
 pub record Before-from (n : ℕ) (out dist : ℕ → ℕ) (y x : ℕ) : Type 0 where

@@ -1,13 +1,12 @@
-// What is reached over an adjacency of up to 64 junction sets.
+// What is reached over an adjacency of up to 64 junction sets, and with how many arcs.
 ghost use mathlib.Core.Path.{_≡_};
 ghost use Prim.Native.Nat.{ℕ, _≤_};
 ghost use lib.ListN.{length};
 ghost use Rattle.laws.specs.Lists.{at};
 ghost use Rattle.junctions.specs.Sets.{holds};
-ghost use Rattle.digraph.specs.Reach.{Reach};
 ghost use Rattle.digraph.specs.Closure.{arc-from};
 ghost use Rattle.digraph.specs.Layers.{Marked, Before, before-test};
-ghost use Rattle.digraph.specs.Paths.{Distances};
+ghost use Rattle.digraph.specs.Search.{Reached, Searched};
 
 // The junctions that the arcs of junction j lead to.
 pub fn arcs(adjacency: &[u64; 64], j: usize) -> u64
@@ -15,36 +14,6 @@ pub fn arcs(adjacency: &[u64; 64], j: usize) -> u64
     ensures { λ r. ⌜ r ≡ at (now (adjacency .entry)) j ⌝ }
 {
     adjacency[j - 1]
-}
-
-// The least closed set that contains the start: each junction reached is expanded once.
-pub fn reach(adjacency: &[u64; 64], start: u64) -> u64
-    ensures { λ r. ⌜ Reach 64 (at (now (adjacency .entry))) start r ⌝ }
-{
-    let mut reached = start;
-    let mut todo = start;
-    while todo != 0 {
-        let next = (u64::trailing_zeros(todo) as usize) + 1;
-        let found = arcs(adjacency, next);
-        todo = (todo & (todo - 1)) | (found ^ (found & reached));
-        reached = reached | found;
-    }
-    reached
-}
-
-// The junctions that arcs from the set lead to.
-pub fn spread(adjacency: &[u64; 64], from: u64) -> u64
-    ensures { λ r. ⌜ ((y : ℕ) → holds r y ≡ arc-from 64 (at (now (adjacency .entry))) from y) ⌝ }
-{
-    let mut found: u64 = 0;
-    let mut rest = from;
-    while rest != 0 {
-        let next = (u64::trailing_zeros(rest) as usize) + 1;
-        let more = arcs(adjacency, next);
-        found = found | more;
-        rest = rest & (rest - 1);
-    }
-    found
 }
 
 // Writes d for each junction of the set.
@@ -60,23 +29,54 @@ pub fn mark(distances: &mut [u8; 64], set: u64, d: u8)
     }
 }
 
-// The fewest arcs from the start to each junction, 64 where none lead there: layer by layer.
-pub fn distances(adjacency: &[u64; 64], start: usize) -> [u8; 64]
-    requires { ⌜ (1 ≤ start) × (start ≤ 64) ⌝ }
-    ensures { λ r. ⌜ Distances 64 (at (now (adjacency .entry))) start (at r) ⌝ }
+// Writes d for each junction of the layer, and gives the junctions that arcs from it lead to.
+pub fn expand(adjacency: &[u64; 64], layer: u64, d: u8, distances: &mut [u8; 64]) -> u64
+    requires { ⌜ length (now distances) ≡ 64 ⌝ }
+    ensures { λ r. ⌜ Marked (now (distances .entry)) (now (distances .exit)) layer d × ((y : ℕ) → holds r y ≡ arc-from 64 (at (now (adjacency .entry))) layer y) ⌝ }
 {
-    let mut distances = [64u8; 64];
+    let mut found: u64 = 0;
+    let mut rest = layer;
+    while rest != 0 {
+        let place = u64::trailing_zeros(rest) as usize;
+        distances[place] = d;
+        found = found | arcs(adjacency, place + 1);
+        rest = rest & (rest - 1);
+    }
+    found
+}
+
+// A search from the start that avoids a set, until it meets the goal: the junctions that it holds, each with the fewest arcs to it.
+// These are all that are nearer than the goal, and those of the goal that are nearest.
+pub fn reach_until(
+    adjacency: &[u64; 64],
+    start: usize,
+    set: u64,
+    goal: u64,
+    distances: &mut [u8; 64],
+) -> u64
+    requires { ⌜ (1 ≤ start) × (start ≤ 64) × (length (now distances) ≡ 64) ⌝ }
+    ensures { λ r. ⌜ Searched 64 (at (now (adjacency .entry))) start set goal r (now (distances .entry)) (now (distances .exit)) ⌝ }
+{
     let mut layer: u64 = 1 << (start - 1);
-    let mut seen = layer;
+    let mut done: u64 = 0;
     let mut d: u8 = 0;
-    while layer != 0 {
-        mark(&mut distances, layer, d);
-        let found = spread(adjacency, layer);
-        layer = found ^ (found & seen);
-        seen = seen | layer;
+    while (layer != 0) & (layer & goal == 0) {
+        let found = expand(adjacency, layer, d, distances);
+        done = done | layer;
+        layer = found ^ (found & (set | done));
         d += 1;
     }
-    distances
+    let met = layer & goal;
+    mark(distances, met, d);
+    done | met
+}
+
+// The junctions that arcs from the start lead to, each with the fewest arcs to it.
+pub fn reach(adjacency: &[u64; 64], start: usize, distances: &mut [u8; 64]) -> u64
+    requires { ⌜ (1 ≤ start) × (start ≤ 64) × (length (now distances) ≡ 64) ⌝ }
+    ensures { λ r. ⌜ Reached 64 (at (now (adjacency .entry))) start r (now (distances .entry)) (now (distances .exit)) ⌝ }
+{
+    reach_until(adjacency, start, 0, 0, distances)
 }
 
 // The distance of junction j.
