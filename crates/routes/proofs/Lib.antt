@@ -1,0 +1,4 @@
+pub mod Steps
+pub mod Turned
+pub mod Reached
+pub mod Shortest

@@ -1,0 +1,4 @@
+pub mod Route
+pub mod Reached
+pub mod Nearer
+pub mod Turned
