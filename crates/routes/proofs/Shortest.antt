@@ -34,6 +34,14 @@ module _ (h : Hall) (c : List ℕ) (D : ℕ → ℕ) (x : ℕ) where
       same : s .back ≡ t .back → s ≡ t
       same b = ap₂ (λ (i : ℕ) (d : Bool). record { number = i; back = d }) e b
 
+pub route-here : (h : Hall) (c : List ℕ) (b : ℕ) → Shortest-route h c b b []
+unfolding runs-to
+route-here h c b = record { there = eq-eqb b b refl; fewest = λ ts t. omega arith; before = λ ts t e ne. absurd (ne (empty ts e)) }
+  where
+    empty : (ts : List Step) → length ts ≡ 0 → [] ≡ ts
+    empty [] e = refl
+    empty (t ∷ ts) e = absurd (omega (arith, e))
+
 module _ (h : Hall) (rg : Ranged h) (c : List ℕ) (b : ℕ) (D : ℕ → ℕ) (D-is : (x : ℕ) → 1 ≤ x → x ≤ h .n → Fewest-to h c x b (some (D x))) where
   -- a route with as few rows as can be
   some-route : (x : ℕ) → 1 ≤ x → x ≤ h .n → (ss : List Step) × (runs-to h c x ss b ≡ true) × (length ss ≡ D x)
@@ -68,14 +76,6 @@ module _ (h : Hall) (rg : Ranged h) (c : List ℕ) (b : ℕ) (D : ℕ → ℕ) (
       begins : (ss : List Step) → runs-to h c x ss b ≡ true → length ss ≡ D x → (s : Step) × Nearer h c D x s
       begins [] t e = absurd (ne (eqb-true x b t))
       begins (s ∷ ss) t e = (s, first-nearer x l m s ss t e)
-
-  pub route-here : Shortest-route h c b b []
-  unfolding runs-to
-  route-here = record { there = eq-eqb b b refl; fewest = λ ts t. omega arith; before = λ ts t e ne. absurd (ne (empty ts e)) }
-    where
-      empty : (ts : List Step) → length ts ≡ 0 → [] ≡ ts
-      empty [] e = refl
-      empty (t ∷ ts) e = absurd (omega (arith, e))
 
   -- the lowest step to a junction one nearer, and the first fewest route from there
   module _ (a : ℕ) (low : 1 ≤ a) (high : a ≤ h .n) (s : Step) (lowest : Lowest h c D a s) (ss : List Step) (rest : Shortest-route h c (ends h s) b ss) where

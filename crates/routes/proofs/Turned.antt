@@ -1,6 +1,6 @@
 -- A hall with every row turned round has every arc turned round, so its fewest arcs from the target are the fewest rows to the target. Assumes nothing.
 use mathlib.Core.Path.{_≡_, refl, sym, ap, ap₂, _∙_}
-use mathlib.Core.Bool.{Bool, true, false, _&&_, _||_}
+use mathlib.Core.Bool.{Bool, _&&_, _||_, and-comm}
 use mathlib.Core.List.{List}
 use mathlib.Core.Option.{Option}
 use Prim.Native.Nat.{ℕ, suc, _-_, _≤_}
@@ -17,12 +17,6 @@ use Rattle.dicuts.specs.Arcs.{arc, arcs}
 use Rattle.routes.specs.Reached.{Fewest-to}
 use Rattle.routes.specs.Turned.{turned-row, turned}
 use Rattle.routes.proofs.Steps.{fewest-steps}
-
-and-swap : (a b : Bool) → (a && b) ≡ (b && a)
-and-swap true true = refl
-and-swap true false = refl
-and-swap false true = refl
-and-swap false false = refl
 
 module _ (h : Hall) where
   pub turned-n : turned h .n ≡ h .n
@@ -67,7 +61,7 @@ module _ (h : Hall) where
         (λ k l. let u = row h (suc k) .from in
         let v = row h (suc k) .to in
         rw (turned-from (suc k), turned-to (suc k))
-        (ap₂ _||_ (and-swap (eqb v y) (eqb u x)) (ap (λ (b : Bool). F (suc k) && b) (and-swap (eqb u y) (eqb v x))))))
+        (ap₂ _||_ (and-comm (eqb v y) (eqb u x)) (ap (λ (b : Bool). F (suc k) && b) (and-comm (eqb u y) (eqb v x))))))
 
     pub turned-arcs : (x y : ℕ) → 1 ≤ x → x ≤ h .n → 1 ≤ y → y ≤ h .n → holds (arcs (turned h) F y) x ≡ holds (arcs h F x) y
     unfolding arcs turned hall
