@@ -3,7 +3,7 @@ use mathlib.Core.Path.{_≡_, refl, sym, ap, _∙_, subst}
 use mathlib.Core.Bool.{Bool, true}
 use mathlib.Core.List.{List}
 use mathlib.Core.Option.{some}
-use Prim.Native.Nat.{ℕ, zero, suc, _+_, _-_, _*_, _%_, _^_, _<_, _≤_}
+use Prim.Native.Nat.{ℕ, zero, suc, _+_, _-_, _^_, _<_, _≤_}
 use native.Mathlib.Numerals.{add-one}
 use native.Mathlib.Omega.{arith}
 use lib.Bits.{bitAnd, and-le-r}
@@ -13,13 +13,12 @@ use borrow.Author.Tests.{eq-eqb, ne-eqb, eqb-true, eqb-false}
 use Rattle.laws.specs.Lists.{at}
 use Rattle.laws.proofs.Booleans.{by-bool, and-l}
 use Rattle.junctions.specs.Sets.{full, holds, Within}
-use Rattle.junctions.proofs.Bits.{one-shl}
 use Rattle.junctions.proofs.Bounds.{junction-le}
 use Rattle.junctions.proofs.Sets.{and-holds, full-lt, gather-lt, some-junction, within-both, within-full}
 use Rattle.junctions.proofs.Single.{one-lt, one-within}
 use Rattle.digraph.specs.Reach.{Closed, Reach}
 use Rattle.digraph.specs.Closure.{closure}
-use Rattle.digraph.proofs.Closure.{closure-reach, closure-lt, reach-unique, reach-narrow, reach-narrow-lt}
+use Rattle.digraph.proofs.Closure.{closure-reach, closure-lt, reach-unique, start-reached, reach-narrow, reach-narrow-lt}
 use Rattle.digraph.proofs.Same.{reach-same}
 use Rattle.hall.specs.Hall.{Hall, member, reached, first-short, missed}
 use Rattle.dicuts.specs.Shores.{Ranged}
@@ -29,7 +28,7 @@ use Rattle.adjacency.proofs.Arcs.{arcs-ext}
 use Rattle.joining.proofs.Reached.{reached-is, reached-lt}
 use Rattle.junctions.proofs.Members.{holds-some}
 use Rattle.joining.proofs.Joins.{reached-start}
-use Rattle.choice.specs.Short.{Arcs-inside, Until, short-from, if-some}
+use Rattle.choice.specs.Short.{Arcs-inside, short-from, if-some}
 
 module _ (all : ℕ) (f : ℕ → ℕ) (n : ℕ) where
   pub short-more : (j : ℕ) → j < n → f (suc j) ≡ all → short-from (n - j) (suc j) all f ≡ short-from (n - (j + 1)) (suc (j + 1)) all f
@@ -47,12 +46,13 @@ module _ (all : ℕ) (f : ℕ → ℕ) (n : ℕ) where
   short-end j i h = let m : n - j ≡ 0 = omega arith in rw m
 
 -- what the code's reach gives is the closure among the first n junctions
-pub reach-is-closure : (n : ℕ) (out : ℕ → ℕ) (j r : ℕ) → n ≤ 64 → Arcs-inside n out → j < n → Reach 64 out ((1 * 2 ^ j) % 2 ^ 64) r → r ≡ closure n out (2 ^ (suc j - 1))
+pub reach-is-closure : (n : ℕ) (out : ℕ → ℕ) (j r : ℕ) → n ≤ 64 → Arcs-inside n out → j < n → Reach 64 out (2 ^ (j + 1 - 1)) r → r ≡ closure n out (2 ^ (suc j - 1))
 unfolding Arcs-inside
 reach-is-closure n out j r small inside h e =
     let q : suc j - 1 ≡ j = omega arith in
     let few : 2 ^ j < 2 ^ n = pow-lt {i = j} {j = n} h in
-    let start : Reach 64 out (2 ^ j) r = rw (one-shl j (omega arith)) at e in
+    let place : j + 1 - 1 ≡ j = omega arith in
+    let start : Reach 64 out (2 ^ j) r = rw place at e in
     rw q
     (reach-unique n out (2 ^ j) r (closure n out (2 ^ j)) (reach-narrow-lt n out (2 ^ j) r small few inside start) (closure-lt n out (2 ^ j) few)
     (reach-narrow n out (2 ^ j) r small few inside start) (closure-reach n out (2 ^ j) few inside))
@@ -66,31 +66,31 @@ known-more n out j known e i l m =
     by-bool (eqb i (suc j)) (λ t. ap (λ (k : ℕ). closure n out (2 ^ (k - 1))) (eqb-true i (suc j) t) ∙ e) (λ t. known i l (omega (arith, eqb-false i (suc j) t)))
 
 module _ (n : ℕ) (out : ℕ → ℕ) (inside : Arcs-inside n out) where
-  -- what a junction that is met reaches, the start reaches too
-  closure-through : (start goal r y : ℕ) → start < 2 ^ n → Until out start goal r → 1 ≤ y → y ≤ n → holds r y ≡ true
-      → Within (closure n out (2 ^ (y - 1))) (closure n out start)
-  unfolding Arcs-inside Within Closed
-  closure-through start goal r y few u l m h =
-      let c = closure n out start in
-      let all = closure-reach n out start few inside in
-      let closed : Closed 64 out c = λ i p _ t. all .closed i p (junction-le n c i (closure-lt n out start few) t) t in
-      closure-reach n out (2 ^ (y - 1)) (one-lt n y l m) inside .least c (one-within c y l (u .least c (all .contains) closed y l h)) (all .closed)
+  -- what a junction in every closed set with the start reaches, the start reaches too
+  closure-through : (start y : ℕ) → 1 ≤ start → start ≤ n → 1 ≤ y → y ≤ n → ((t : ℕ) → holds t start ≡ true → Closed 64 out t → holds t y ≡ true)
+      → Within (closure n out (2 ^ (y - 1))) (closure n out (2 ^ (start - 1)))
+  unfolding Arcs-inside Closed
+  closure-through start y p q l m led =
+      let few = one-lt n start p q in
+      let c = closure n out (2 ^ (start - 1)) in
+      let all = closure-reach n out (2 ^ (start - 1)) few inside in
+      let closed : Closed 64 out c = λ i p _ t. all .closed i p (junction-le n c i (closure-lt n out (2 ^ (start - 1)) few) t) t in
+      closure-reach n out (2 ^ (y - 1)) (one-lt n y l m) inside .least c (one-within c y l (led c (start-reached n out start c p all) closed)) (all .closed)
 
   -- a junction whose search meets one that reaches all reaches all
-  pub met-full : (j start r : ℕ) → j < n → start ≡ 2 ^ j → Known n out j → Until out start (start - 1) r → (bitAnd r (start - 1) ≡ 0 → ⊥)
-      → closure n out (2 ^ (suc j - 1)) ≡ full n
+  pub met-full : (j start r : ℕ) → j < n → start ≡ 2 ^ j → Known n out j
+      → ((y : ℕ) → 1 ≤ y → y ≤ 64 → holds r y ≡ true → (t : ℕ) → holds t (j + 1) ≡ true → Closed 64 out t → holds t y ≡ true)
+      → n ≤ 64 → (bitAnd r (start - 1) ≡ 0 → ⊥) → closure n out (2 ^ (suc j - 1)) ≡ full n
   unfolding Within full
-  met-full j start r h e known u met =
-      let few : start < 2 ^ n = omega (arith, e, pow-lt {i = j} {j = n} h) in
+  met-full j start r h e known led small met =
       let w = some-junction j (bitAnd r (start - 1)) (omega (arith, met)) (omega (arith, e, pow-pos j, and-le-r r (start - 1))) in
       let y = w .0 in
       let held : holds r y ≡ true = and-l (holds r y) (holds (start - 1) y) (sym (and-holds r (start - 1) y) ∙ w .3) in
-      let c = closure n out start in
-      let few-c = closure-lt n out start few in
-      let through = closure-through start (start - 1) r y few u (w .1) (omega (arith, w .2)) held in
-      let q : suc j - 1 ≡ j = omega arith in
-      rw (q, sym e) (within-both n c (full n) few-c (full-lt n) (within-full n c few-c)
-      (λ i p t. through i p (ap (λ (s : ℕ). holds s i) (known y (w .1) (w .2)) ∙ t)))
+      let c = closure n out (2 ^ (suc j - 1)) in
+      let few-c = closure-lt n out (2 ^ (suc j - 1)) (one-lt n (suc j) (omega arith) (omega arith)) in
+      let through = closure-through (suc j) y (omega arith) (omega arith) (w .1) (omega (arith, w .2)) (λ t here. led y (w .1) (omega (arith, w .2)) held t (rw (add-one j) here)) in
+      within-both n c (full n) few-c (full-lt n) (within-full n c few-c)
+      (λ i p t. through i p (ap (λ (s : ℕ). holds s i) (known y (w .1) (w .2)) ∙ t))
 
 -- what is found is what document 03 calls missed
 module _ (h : Hall) (rg : Ranged h) (c : List ℕ) (out : ℕ → ℕ) (same : (j : ℕ) → 1 ≤ j → j ≤ h .n → out j ≡ arcs h (λ i. member i c) j) where

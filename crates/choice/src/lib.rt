@@ -11,7 +11,7 @@ ghost use Rattle.digraph.specs.Closure.{closure};
 ghost use Rattle.hall.specs.Hall.{Hall, count, ascends-from, is-choice, member, missed};
 ghost use Rattle.dicuts.specs.Shores.{Ranged};
 ghost use Rattle.columns.specs.Columns.{Ends, Columns, Marks, flagged};
-ghost use Rattle.choice.specs.Short.{Arcs-inside, Until, short-from, if-some};
+ghost use Rattle.choice.specs.Short.{Arcs-inside, short-from, if-some};
 use junctions::Junctions;
 
 // The numbers ascend strictly from 1 up to the limit.
@@ -103,24 +103,6 @@ pub fn unflagged(flags: &[bool; 256]) -> [bool; 256]
     others
 }
 
-// What a search from the start has reached when it first holds a junction of the goal, or when it ends.
-fn reach_until(adjacency: &[u64; 64], start: u64, goal: u64) -> u64
-    ensures { λ r. ⌜ Until (at (now (adjacency .entry))) start goal r ⌝ }
-{
-    let mut reached = start;
-    let mut todo = start;
-    while todo != 0 {
-        if reached & goal != 0 {
-            return reached;
-        }
-        let next = (u64::trailing_zeros(todo) as usize) + 1;
-        let found = digraph::arcs(adjacency, next);
-        todo = (todo & (todo - 1)) | (found ^ (found & reached));
-        reached = reached | found;
-    }
-    reached
-}
-
 // What the lowest of the junctions 1 to n that does not reach all reaches; 0 where each reaches all.
 // The junctions before one are known to reach all: a search that meets one of them need not go on.
 pub fn shortfall(adjacency: &[u64; 64], n: usize) -> u64
@@ -128,11 +110,12 @@ pub fn shortfall(adjacency: &[u64; 64], n: usize) -> u64
     ensures { λ r. ⌜ r ≡ short-from n 1 (full n) (λ (j : ℕ). closure n (at (now (adjacency .entry))) (2 ^ (j - 1))) ⌝ }
 {
     let all = Junctions::full(n).0;
+    let mut distances = [0u8; 64];
     let mut j: usize = 0;
     while j < n {
         let here: u64 = 1 << j;
         let known = here - 1;
-        let reached = reach_until(adjacency, here, known);
+        let reached = digraph::reach_until(adjacency, j + 1, 0, known, &mut distances);
         if reached & known == 0 && reached != all {
             return reached;
         }

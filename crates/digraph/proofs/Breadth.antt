@@ -12,9 +12,10 @@ use lib.ListN.{length}
 use lib.Pow.{pow-lt}
 use borrow.Author.Tests.{eq-eqb, eqb-true, eqb-false, not-true}
 use Rattle.laws.specs.Lists.{at}
-use Rattle.laws.proofs.Booleans.{by-bool, clash, and-l, and-r, and-i, bool-ext, not-true-false}
+use Rattle.laws.proofs.Booleans.{by-bool, clash, and-l, and-r, and-i, or-cases, bool-ext, not-true-false}
 use Rattle.junctions.specs.Sets.{holds}
 use Rattle.junctions.proofs.Bits.{one-shl}
+use Rattle.junctions.proofs.Bounds.{junction-le}
 use Rattle.junctions.proofs.Sets.{and-holds, or-holds, less-holds, none-holds, some-junction}
 use Rattle.digraph.specs.Closure.{arc-from}
 use Rattle.digraph.specs.Distances.{distances}
@@ -74,6 +75,7 @@ module _ (out : ℕ → ℕ) (start set goal : ℕ) (from-one : 1 ≤ start) (to
         pow-lt {i = start - 1} {j = 64} (omega arith),
         size,
         layers-start 64 round start from-one to-last (distances 64 round start) (distances-are 64 round start from-one to-last) (at before) goal,
+        λ x y l m t. clash t (none-holds x),
       )
 
   module _ (dist : List ℕ) (layer done d : ℕ) (s : Turn out start set goal before dist layer done d) where
@@ -93,6 +95,10 @@ module _ (out : ℕ → ℕ) (start set goal : ℕ) (from-one : 1 ≤ start) (to
           (at dist) layer done d (s .2) (at dist′) (bitXor found (bitAnd found known)) (bitOr done layer)
           (λ j l t. not-true-false (holds layer j) (λ u. clash (and-holds layer goal j ∙ and-i (holds layer j) (holds goal j) u t) (ap (λ (w : ℕ). holds w j) unmet ∙ none-holds j)))
           (marked .entry) (λ j l. or-holds done layer j) (λ j l. layer-is j)),
+      λ x y l m t p a.
+          ⊎-elim (λ (e : holds done x ≡ true). s .3 x y l m e p a)
+          (λ (e : holds layer x ≡ true). junction-le 64 found y h (found-is y ∙ arc-from-intro 64 out layer x y l m e a))
+          (or-cases (holds done x) (holds layer x) (sym (or-holds done layer x) ∙ t)),
     )
       where
         known : ℕ
@@ -109,7 +115,7 @@ module _ (out : ℕ → ℕ) (start set goal : ℕ) (from-one : 1 ≤ start) (to
         Searched 64 out start set goal (bitOr done (bitAnd layer goal)) before dist′
     breadth-stop dist′ test marked =
         stopped 64 out start set goal from-one to-last (distances 64 round start) (distances-are 64 round start from-one to-last) before dist layer done d
-        (s .2) over (bitOr done (bitAnd layer goal)) dist′ (marked .size)
+        (s .2) (s .3) over (bitOr done (bitAnd layer goal)) dist′ (marked .size)
         (λ j l. or-holds done (bitAnd layer goal) j ∙ ap (λ (b : Bool). holds done j || b) (and-holds layer goal j))
         (λ j l m. marked .entry j l m ∙ ap (λ (b : Bool). cond b d (at dist j)) (and-holds layer goal j))
       where

@@ -5,20 +5,21 @@ use mathlib.Core.List.{List, [], _∷_}
 use mathlib.Core.Option.{none, some}
 use Prim.Native.Nat.{ℕ, suc, _-_, _^_, _≤_, _<_}
 use native.Mathlib.Omega.{arith}
+use lib.Bits.{bitAnd}
 use lib.Dec.{eqb}
 use lib.ListN.{length}
 use borrow.Author.Tests.{eqb-true}
-use Rattle.laws.proofs.Booleans.{by-bool, clash, not-false-true}
+use Rattle.laws.proofs.Booleans.{by-bool, clash, and-l, and-i, not-true-false, not-false-true}
 use Rattle.laws.specs.Lists.{at}
 use Rattle.junctions.specs.Sets.{holds, Within}
 use Rattle.junctions.proofs.Bounds.{junction-le}
-use Rattle.junctions.proofs.Sets.{none-holds, one-holds}
+use Rattle.junctions.proofs.Sets.{and-holds, none-holds, one-holds}
 use Rattle.junctions.proofs.Single.{one-self}
 use Rattle.digraph.specs.Reach.{Closed, Reach}
 use Rattle.digraph.specs.Paths.{Distances, Walk, Fewest}
 use Rattle.digraph.specs.Search.{if-held, Reached, avoiding, Searched}
 use Rattle.digraph.proofs.Breadth.{avoiding-holds}
-use Rattle.digraph.proofs.Walks.{walk-join, walk-last, walk-closed, fewest-alike}
+use Rattle.digraph.proofs.Walks.{walk-join, walk-last, walk-alike, walk-closed, fewest-alike}
 
 -- a search that holds no junction of its goal has gone to its end
 pub searched-reached : (n : ℕ) (out : ℕ → ℕ) (start set goal r : ℕ) (before after : List ℕ) → Searched n out start set goal r before after →
@@ -29,20 +30,25 @@ searched-reached n out start set goal r before after s unmet = record {
   fewest = λ y l m.
       by-bool (holds r y) (λ t. rw t (s .fewest y l m t)) (λ f. rw f (s .ended unmet y l m f));
   few = s .few;
+  inside = λ x y l m h p a. s .inside x y l m h (goal-free x l h) p (and-l (holds (out x) y) (not (holds set y)) (sym (avoiding-holds set out x y) ∙ a));
   kept = s .kept;
 }
+  where
+    goal-free : (x : ℕ) → 1 ≤ x → holds r x ≡ true → holds goal x ≡ false
+    goal-free x l h = not-true-false (holds goal x) (λ t. clash h (unmet x l t))
 
 -- arcs that avoid no junction are all arcs
 pub avoiding-none : (out : ℕ → ℕ) (x y : ℕ) → holds (avoiding 0 out x) y ≡ holds (out x) y
 avoiding-none out x y = avoiding-holds 0 out x y ∙ ap (λ (b : Bool). holds (out x) y && not b) (none-holds y) ∙ and-true (holds (out x) y)
 
--- the same arcs among junctions 1 to n
-pub reached-alike : (n : ℕ) (out to : ℕ → ℕ) → ((x y : ℕ) → 1 ≤ x → x ≤ n → 1 ≤ y → y ≤ n → holds (out x) y ≡ holds (to x) y) →
+-- the same arcs from junctions 1 to n
+pub reached-alike : (n : ℕ) (out to : ℕ → ℕ) → ((x y : ℕ) → 1 ≤ x → x ≤ n → 1 ≤ y → holds (out x) y ≡ holds (to x) y) →
     (start r : ℕ) (before after : List ℕ) → 1 ≤ start → start ≤ n → Reached n out start r before after → Reached n to start r before after
 reached-alike n out to same start r before after low high s = record {
   size = s .size;
-  fewest = λ y l m. fewest-alike n out to same start low high y (if-held (holds r y) (at after y)) (s .fewest y l m);
+  fewest = λ y l m. fewest-alike n out to (λ x z a b c _. same x z a b c) start low high y (if-held (holds r y) (at after y)) (s .fewest y l m);
   few = s .few;
+  inside = λ x y l m h p a. s .inside x y l m h p (same x y l m p ∙ a);
   kept = s .kept;
 }
 
@@ -78,11 +84,11 @@ module _ (n : ℕ) (out : ℕ → ℕ) (start r : ℕ) (before after : List ℕ)
       (h, omega (arith, held-least y p q h (v .0) (v .1), v .2, w .2))
 
   -- what is held is the least closed set with the start
-  pub reached-reach : r < 2 ^ n → ((j : ℕ) → 1 ≤ j → j ≤ n → out j < 2 ^ n) → Reach n out (2 ^ (start - 1)) r
+  pub reached-reach : r < 2 ^ n → Reach n out (2 ^ (start - 1)) r
   unfolding Within Closed
-  reached-reach small ranged = record {
+  reached-reach small = record {
     contains = λ y l t. ap (holds r) (eqb-true y start (sym (one-holds y start l low) ∙ t)) ∙ start-held;
-    closed = λ x l m t y p a. arc-held x y l m p (junction-le n (out x) y (ranged x l m) a) t a .0;
+    closed = λ x l m t y p a. arc-held x y l m p (s .inside x y l m t p a) t a .0;
     least = λ t c shut y l h.
         let w = held-walk y l (junction-le n r y small h) h in
         walk-closed n out t shut start low high (c start low (one-self start low)) (w .0) y (w .1);
@@ -124,3 +130,20 @@ module _ (n : ℕ) (out : ℕ → ℕ) (start r : ℕ) (before after : List ℕ)
         only : (y : ℕ) (ws : List ℕ) → Walk n out start ws y → length ws ≡ 0 → y ≡ start
         only y [] c e = sym c
         only y (w ∷ ws) c e = absurd (omega (arith, e))
+
+-- a search that avoids no junction
+module _ (n : ℕ) (out : ℕ → ℕ) (start goal r : ℕ) (before after : List ℕ) (low : 1 ≤ start) (high : start ≤ n) (s : Searched n out start 0 goal r before after) where
+  -- what it holds is in each closed set with the start
+  pub searched-within : (y : ℕ) → 1 ≤ y → y ≤ n → holds r y ≡ true → (t : ℕ) → holds t start ≡ true → Closed n out t → holds t y ≡ true
+  unfolding Fewest
+  searched-within y l m h t here shut =
+      let w = s .fewest y l m h .0 in
+      walk-closed n out t shut start low high here (w .0) y (walk-alike n (avoiding 0 out) out (λ x z _ _ _ _. avoiding-none out x z) start low high (w .0) y (w .1))
+
+  -- and where it holds none of the goal, that is what is reached
+  pub searched-reach : bitAnd r goal ≡ 0 → r < 2 ^ n → Reach n out (2 ^ (start - 1)) r
+  searched-reach unmet =
+      reached-reach n out start r before after low high
+      (reached-alike n (avoiding 0 out) out (λ x z _ _ _. avoiding-none out x z) start r before after low high
+      (searched-reached n out start 0 goal r before after s
+      (λ g l t. not-true-false (holds r g) (λ h. clash (and-holds r goal g ∙ and-i (holds r g) (holds goal g) h t) (ap (λ (w : ℕ). holds w g) unmet ∙ none-holds g)))))

@@ -21,6 +21,7 @@ use Rattle.digraph.proofs.Layers.{layers-end}
 module _ (n : ℕ) (out : ℕ → ℕ) (start set goal : ℕ) (from-one : 1 ≤ start) (to-last : start ≤ n) (far : ℕ → ℕ)
     (d : Distances n (avoiding set out) start far) (before dist : List ℕ) (layer done k : ℕ)
     (s : Layered n far (at before) (at dist) goal layer done k)
+    (inside : (x y : ℕ) → 1 ≤ x → x ≤ n → holds done x ≡ true → 1 ≤ y → holds (out x) y ≡ true → y ≤ n)
     (over : ((j : ℕ) → 1 ≤ j → (holds layer j && holds goal j) ≡ false) → layer ≡ 0)
     (r : ℕ) (after : List ℕ) (size : length after ≡ n)
     (r-is : (j : ℕ) → 1 ≤ j → holds r j ≡ (holds done j || (holds layer j && holds goal j)))
@@ -70,6 +71,9 @@ module _ (n : ℕ) (out : ℕ → ℕ) (start set goal : ℕ) (from-one : 1 ≤ 
         (by-bool (ltb (far y) n)
         (λ t. clash (keeps y l (layers-end n (avoiding set out) start from-one to-last far d (at before) goal (at dist) layer done k s last y l m (ltb-true (far y) n t))) f)
         (λ t. ltb-false (far y) n t));
+    inside = λ x y l m h f p a.
+        inside x y l m (⊎-elim (λ (e : holds done x ≡ true). e) (λ (e : (holds layer x && holds goal x) ≡ true). clash (and-r (holds layer x) (holds goal x) e) f)
+        (or-cases (holds done x) (holds layer x && holds goal x) (sym (r-is x l) ∙ h))) p a;
     kept = λ y l m f.
         let none = sym (r-is y l) ∙ f in
         marks y l m ∙ cond-false (holds layer y && holds goal y) k (at dist y) (or-false-r (holds done y) (holds layer y && holds goal y) none)

@@ -15,11 +15,13 @@ unfoldable pub if-held : (held : Bool) → ℕ → Option ℕ
 if-held true k = some k
 if-held false k = none
 
--- THE REACH STEP: the list has the fewest arcs to each junction that is reached; to the others none lead, and their places are as before
+-- THE REACH STEP: the list has the fewest arcs to each junction that is reached, fewer than n; to the others none lead, and their places are as
+-- before. Arcs from what is reached end in junctions 1 to n
 pub record Reached (n : ℕ) (out : ℕ → ℕ) (start r : ℕ) (before after : List ℕ) : Type 0 where
   pub size : length after ≡ n
   pub fewest : (y : ℕ) → 1 ≤ y → y ≤ n → Fewest n out start y (if-held (holds r y) (at after y))
   pub few : (y : ℕ) → 1 ≤ y → y ≤ n → holds r y ≡ true → at after y < n
+  pub inside : (x y : ℕ) → 1 ≤ x → x ≤ n → holds r x ≡ true → 1 ≤ y → holds (out x) y ≡ true → y ≤ n
   pub kept : (y : ℕ) → 1 ≤ y → y ≤ n → holds r y ≡ false → at after y ≡ at before y
 
 -- the arcs that do not end in the set
@@ -37,4 +39,5 @@ pub record Searched (n : ℕ) (out : ℕ → ℕ) (start set goal r : ℕ) (befo
   pub nearest : (g y : ℕ) → 1 ≤ g → g ≤ n → 1 ≤ y → y ≤ n → holds goal g ≡ true → holds r g ≡ true → holds r y ≡ true → at after y ≤ at after g
   pub ended : ((g : ℕ) → 1 ≤ g → holds goal g ≡ true → holds r g ≡ false) →
       (y : ℕ) → 1 ≤ y → y ≤ n → holds r y ≡ false → Fewest n (avoiding set out) start y none
+  pub inside : (x y : ℕ) → 1 ≤ x → x ≤ n → holds r x ≡ true → holds goal x ≡ false → 1 ≤ y → holds (out x) y ≡ true → y ≤ n
   pub kept : (y : ℕ) → 1 ≤ y → y ≤ n → holds r y ≡ false → at after y ≡ at before y

@@ -1,6 +1,6 @@
 -- What holds at the head of each turn of the loops over sets and layers. Assumes nothing: these are definitions.
 use mathlib.Core.Path.{_≡_}
-use mathlib.Core.Bool.{_||_, cond}
+use mathlib.Core.Bool.{true, _||_, cond}
 use mathlib.Core.List.{List}
 use Prim.Native.Nat.{ℕ, _^_, _≤_, _<_}
 use lib.ListN.{length}
@@ -19,10 +19,11 @@ Spreading out from found rest = (y : ℕ) → (holds found y || arc-from 64 out 
 abbrev pub Marking : (before now : List ℕ) → (all rest d : ℕ) → Type 0
 Marking before now all rest d = (j : ℕ) → 1 ≤ j → j ≤ 64 → cond (holds rest j) d (at now j) ≡ cond (holds all j) d (at before j)
 
--- d layers from the start are done and marked in the list, over arcs that avoid the set
+-- d layers from the start are done and marked in the list, over arcs that avoid the set; arcs of what is done end in junctions 1 to 64
 abbrev pub Turn : (out : ℕ → ℕ) → (start set goal : ℕ) → (before dist : List ℕ) → (layer done d : ℕ) → Type 0
 Turn out start set goal before dist layer done d =
     (layer < 2 ^ 64) × (length dist ≡ 64) × Layered 64 (distances 64 (avoiding set out) start) (at before) (at dist) goal layer done d
+    × ((x y : ℕ) → 1 ≤ x → x ≤ 64 → holds done x ≡ true → 1 ≤ y → holds (out x) y ≡ true → y ≤ 64)
 
 -- a junction one arc before y is x or a later one
 pub record Before-from (n : ℕ) (out dist : ℕ → ℕ) (y x : ℕ) : Type 0 where

@@ -13,7 +13,7 @@ reach-until-requires c κs = search needs
 
 returns : tie.Need-returns
 returns c = let at-start = c .before .before in let a = at-start .args in let out = at (a .adjacency .now) in let r = c .reach-until .result in
-    reached-alike 64 (avoiding 0 out) out (λ x y l m p q. avoiding-none out x y) (a .start) r (a .distances .now) _ (at-start .pre .0) (at-start .pre .1)
+    reached-alike 64 (avoiding 0 out) out (λ x y l m p. avoiding-none out x y) (a .start) r (a .distances .now) _ (at-start .pre .0) (at-start .pre .1)
     (searched-reached 64 out (a .start) 0 0 r (a .distances .now) _ (c .reach-until .ensures) (λ g l t. clash t (none-holds g)))
 
 pub reach-spec : {M : Type 1} → statement M
