@@ -1,15 +1,14 @@
 -- What a search by layers has found where it stops: at its end, or in the layer where it meets the goal. Assumes nothing.
-use mathlib.Core.Path.{_≡_, refl, sym, ap, _∙_}
+use mathlib.Core.Path.{_≡_, sym, _∙_}
 use mathlib.Core.Bool.{true, false, _&&_, _||_, cond}
 use mathlib.Core.List.{List}
 use mathlib.Core.Logic.{_⊎_, ⊎-elim}
-use mathlib.Core.Option.{some}
 use Prim.Native.Nat.{ℕ, _≤_, _<_}
 use native.Mathlib.Omega.{arith}
 use lib.Dec.{ltb}
 use lib.ListN.{length}
 use borrow.Author.Tests.{ltb-true, ltb-false}
-use Rattle.laws.proofs.Booleans.{by-bool, clash, and-l, and-r, and-i, or-cases, or-l, or-r, or-false-l, or-false-r, not-true-false, cond-true, cond-false}
+use Rattle.laws.proofs.Booleans.{by-bool, clash, and-l, and-r, or-cases, or-l, or-r, or-false-l, or-false-r, not-true-false, cond-true, cond-false}
 use Rattle.laws.specs.Lists.{at}
 use Rattle.junctions.specs.Sets.{holds}
 use Rattle.digraph.specs.Paths.{Distances, Fewest}

@@ -13,6 +13,7 @@ pub fn is_connected(hall: HallRecord) -> bool
 {
     let every = [true; 256];
     let sets = adjacency::of_rows(hall.n, hall.count, &hall.tails, &hall.heads, &every);
-    let reached = digraph::reach(&sets, 1);
+    let mut distances = [0u8; 64];
+    let reached = digraph::reach(&sets, 1, &mut distances);
     reached == Junctions::full(hall.n).0
 }

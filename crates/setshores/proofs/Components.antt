@@ -1,7 +1,7 @@
 -- The loop over the components of the hall without a class, and the one over the classes of a set. Assumes nothing.
 use mathlib.Core.Path.{_≡_, refl, sym, ap, subst, _∙_}
 use mathlib.Core.List.{List}
-use Prim.Native.Nat.{ℕ, _*_, _%_, _^_, _≤_, _<_}
+use Prim.Native.Nat.{ℕ, _^_, _≤_, _<_}
 use lib.Bits.{bitAnd, bitXor}
 use lib.Count.{trailingZeros}
 use Rattle.junctions.specs.Sets.{full}
@@ -24,7 +24,7 @@ module _ (class weight : ℕ) {n : ℕ} {links : ℕ → ℕ} {count : ℕ} {sho
     components-end e = taking-none t e
 
     module _ {to : ℕ → ℕ} {found : ℕ} (arcs : Mutual n links) (some : 0 < left) (same : (j : ℕ) → 1 ≤ j → j ≤ 64 → to j ≡ inside (bitXor all (bitAnd all class)) links j)
-        (reach : Reach 64 to ((1 * 2 ^ trailingZeros 64 left) % 2 ^ 64) found) where
+        (reach : Reach 64 to (2 ^ trailingZeros 64 left) found) where
       inside-is : (j : ℕ) → 1 ≤ j → j ≤ 64 → to j ≡ inside (outside n class) links j
       inside-is j l m = same j l m ∙ ap (λ (w : ℕ). inside w links j) (outside-word n class all all-is)
 
@@ -53,7 +53,7 @@ module _ (links : ℕ → ℕ) (weight : ℕ) {n : ℕ} {mates : ℕ → ℕ} {s
     classes-end e = taking-none t e
 
     module _ {to : ℕ → ℕ} {found : ℕ} (arcs : Mutual n mates) (some : 0 < left) (same : (j : ℕ) → 1 ≤ j → j ≤ 64 → to j ≡ inside set mates j)
-        (reach : Reach 64 to ((1 * 2 ^ trailingZeros 64 left) % 2 ^ 64) found) where
+        (reach : Reach 64 to (2 ^ trailingZeros 64 left) found) where
       pub classes-fits : Fits count shores weights (classes-weigh n links mates set weight) → Fits now-count now-shores now-weights (components-weigh n links found weight)
       unfolding classes-weigh
       classes-fits fits = taking-fits t arcs small low some same reach fits

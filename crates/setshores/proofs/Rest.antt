@@ -1,8 +1,8 @@
 -- Pieces taken out of a set one by one, each by its lowest junction. Assumes nothing.
-use mathlib.Core.Path.{_≡_, refl, sym, ap, subst, _∙_}
+use mathlib.Core.Path.{_≡_, refl, sym, ap, _∙_}
 use mathlib.Core.Bool.{Bool, true, false, _&&_, not, cond}
 use mathlib.Core.Logic.{_⊎_, ⊎-elim}
-use Prim.Native.Nat.{ℕ, suc, _+_, _-_, _*_, _%_, _^_, _≤_, _<_}
+use Prim.Native.Nat.{ℕ, suc, _+_, _-_, _^_, _≤_, _<_}
 use native.Mathlib.Omega.{arith}
 use lib.Bits.{bitAnd, bitXor, and-le-l, xor-lt}
 use lib.Count.{trailingZeros}
@@ -14,7 +14,6 @@ use Rattle.laws.proofs.Finite.{sum-ext, sum-zero}
 use Rattle.laws.proofs.Numbers.{compare-numbers}
 use Rattle.laws.proofs.Places.{sum-change}
 use Rattle.junctions.specs.Sets.{holds, full, Within, Lowest}
-use Rattle.junctions.proofs.Bits.{one-shl}
 use Rattle.junctions.proofs.Bounds.{junction-le}
 use Rattle.junctions.proofs.Members.{full-in, within-le}
 use Rattle.junctions.proofs.Sets.{none-holds, less-holds, lowest-is, sets-ext, full-lt}
@@ -156,7 +155,7 @@ module _ (n : ℕ) (out : ℕ → ℕ) (arcs : Mutual n out) (w left : ℕ) (low
 
 -- the machine's step: the piece of the lowest junction that is left is found, and taken out
 module _ (n : ℕ) (out to : ℕ → ℕ) (arcs : Mutual n out) (w left : ℕ) (small : n ≤ 64) (low : w < 2 ^ n) (rest : Rest n out w left) (some : 0 < left) (fits : left < 2 ^ 64)
-    (same : (j : ℕ) → 1 ≤ j → j ≤ 64 → to j ≡ inside w out j) (found : ℕ) (reach : Reach 64 to ((1 * 2 ^ trailingZeros 64 left) % 2 ^ 64) found) where
+    (same : (j : ℕ) → 1 ≤ j → j ≤ 64 → to j ≡ inside w out j) (found : ℕ) (reach : Reach 64 to (2 ^ trailingZeros 64 left) found) where
   k : ℕ
   k = trailingZeros 64 left
 
@@ -170,9 +169,8 @@ module _ (n : ℕ) (out to : ℕ → ℕ) (arcs : Mutual n out) (w left : ℕ) (
   pub found-piece : found ≡ piece n out w (suc (trailingZeros 64 left))
   unfolding k
   found-piece =
-      let start : (1 * 2 ^ k) % 2 ^ 64 ≡ 2 ^ k = one-shl k (omega (arith, lowest .to-last)) in
       let m = junction-le n w (suc k) low (rest .in-it (suc k) (omega arith) (lowest .in-it)) in
-      reach-piece n out to w k found small low (omega (arith, m)) same (subst (λ (s : ℕ). Reach 64 to s found) start reach)
+      reach-piece n out to w k found small low (omega (arith, m)) same reach
 
   after-is : (j : ℕ) → 1 ≤ j → holds (bitXor left (bitAnd left found)) j ≡ (holds left j && not (holds (piece n out w (suc k)) j))
   unfolding k

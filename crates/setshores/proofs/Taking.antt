@@ -1,7 +1,7 @@
 -- The loops over the pieces of a set: each turn adds what its piece adds, until none is left. Assumes nothing.
 use mathlib.Core.Path.{_≡_, sym, ap, subst, _∙_}
 use mathlib.Core.List.{List}
-use Prim.Native.Nat.{ℕ, _+_, _*_, _%_, _^_, _≤_, _<_}
+use Prim.Native.Nat.{ℕ, _+_, _^_, _≤_, _<_}
 use native.Mathlib.Omega.{arith}
 use lib.Bits.{bitAnd, bitXor, and-le-l, xor-lt}
 use lib.Count.{trailingZeros}
@@ -38,7 +38,7 @@ module _ {n : ℕ} {out : ℕ → ℕ} {w : ℕ} {f : ℕ → ℕ → ℕ} {coun
         (λ s. ap (λ (l : ℕ). over-rest n out w l (f s)) e ∙ over-none n out w (f s)) (t .adding)
 
     module _ {to : ℕ → ℕ} {found : ℕ} (arcs : Mutual n out) (small : n ≤ 64) (low : w < 2 ^ n) (some : 0 < left)
-        (same : (j : ℕ) → 1 ≤ j → j ≤ 64 → to j ≡ inside w out j) (reach : Reach 64 to ((1 * 2 ^ trailingZeros 64 left) % 2 ^ 64) found) where
+        (same : (j : ℕ) → 1 ≤ j → j ≤ 64 → to j ≡ inside w out j) (reach : Reach 64 to (2 ^ trailingZeros 64 left) found) where
       split : (s : ℕ) → over-rest n out w left (f s) ≡ f s found + over-rest n out w (bitXor left (bitAnd left found)) (f s)
       split s = take-over n out to arcs w left small low (t .rest) some (t .fits) same found reach (f s)
 

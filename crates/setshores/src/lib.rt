@@ -40,9 +40,14 @@ pub fn add_components(
     let free = all ^ (all & class);
     let inside = within(links, free);
     let mut left = free;
+    let mut distances = [0u8; 64];
     let mut filled = count;
     while left != 0 {
-        let component = digraph::reach(&inside, 1 << u64::trailing_zeros(left));
+        let component = digraph::reach(
+            &inside,
+            (u64::trailing_zeros(left) as usize) + 1,
+            &mut distances,
+        );
         filled = shorelist::add(shores, weights, filled, all ^ (all & component), weight);
         left = left ^ (left & component);
     }
@@ -65,9 +70,14 @@ pub fn add_classes<'a, 'b>(
 {
     let inside = within(mates, set);
     let mut left = set;
+    let mut distances = [0u8; 64];
     let mut filled = count;
     while left != 0 {
-        let class = digraph::reach(&inside, 1 << u64::trailing_zeros(left));
+        let class = digraph::reach(
+            &inside,
+            (u64::trailing_zeros(left) as usize) + 1,
+            &mut distances,
+        );
         filled = add_components(n, links, class, weight, shores, weights, filled);
         left = left ^ (left & class);
     }

@@ -6,7 +6,9 @@ use native.Mathlib.Omega.{arith}
 use lib.Dec.{eqb}
 use lib.ListN.{replicate, getD-replicate}
 use borrow.Author.Needs.{needs}
+use Rattle.laws.specs.Lists.{at}
 use Rattle.junctions.specs.Sets.{full}
+use Rattle.digraph.proofs.Reaching.{reached-reach}
 use Rattle.columns.proofs.Ranged.{columns-ranged}
 use Rattle.hallfile.proofs.Links.{reach-connected}
 use Rattle.hallfile.proofs.connected.is_connected.Statement.{statement}
@@ -17,7 +19,7 @@ abbrev at-reach : tie.After-struct-known → tie.After-reach
 at-reach c = c .before .before
 
 abbrev at-sets : tie.After-reach → tie.After-of-rows
-at-sets c = c .before .before
+at-sets c = c .before .before .before
 
 abbrev at-start : tie.After-of-rows → tie.Start
 at-start c = c .before .before .before .before .before
@@ -42,7 +44,7 @@ returns c = λ h cols.
     ∙ reach-connected h (columns-ranged h (hall .n) (hall .count) (hall .tails) (hall .heads) (s .pre .0) (s .pre .1) cols) (omega (arith, cols .junctions, s .pre .1 .size))
     (replicate 256 true) (sets .result) (reach .result)
     (λ i p q. getD-replicate 256 (i - 1) true false (omega (arith, cols .rows, s .pre .1 .few)))
-    (sets .ensures h cols) (reach .ensures)
+    (sets .ensures h cols) (reached-reach 64 (at (sets .result)) 1 (reach .result) _ _ (omega arith) (omega arith) (reach .ensures) (omega (arith, reach .ok)))
 
 pub is-connected-spec : {M : Type 1} → statement M
 is-connected-spec = tie.close (tie.spec of-rows-requires reach-requires full-requires returns)
