@@ -1,19 +1,17 @@
 -- The searches from the heads beside the set, one after another: their parts keep apart, or two searches meet. Assumes nothing.
 use mathlib.Core.Path.{_≡_, refl, sym, ap, _∙_}
-use mathlib.Core.Bool.{true, false, _&&_, _||_, not}
+use mathlib.Core.Bool.{true, false, _&&_, not}
 use mathlib.Core.Logic.{_⊎_, inl, inr, ⊎-elim}
-use Prim.Native.Nat.{ℕ, suc, _-_, _^_, _≤_, _<_}
-use native.Mathlib.Numerals.{add-one}
+use Prim.Native.Nat.{ℕ, _≤_}
 use lib.Bits.{bitAnd, bitOr, bitXor}
-use lib.Count.{trailingZeros}
 use lib.Dec.{eqb}
 use borrow.Author.Tests.{eq-eqb, eqb-true, not-true}
-use Rattle.laws.proofs.Booleans.{by-bool, clash, and-l, and-r, and-i, or-cases, or-l, or-r, or-false-l, not-true-false}
+use Rattle.laws.proofs.Booleans.{by-bool, clash, and-l, and-r, and-i, or-cases, or-l, or-r, not-true-false}
+use Rattle.laws.proofs.Connectives.{or-false-i}
 use Rattle.junctions.specs.Sets.{holds, Within}
-use Rattle.junctions.proofs.Sets.{or-holds, less-holds, none-holds, lowest-is}
-use Rattle.junctions.proofs.Words.{clear-holds}
-use Rattle.growth.specs.Growth.{Leads, apart, Searched, Search-part, Meeting}
-use Rattle.growth.proofs.Searches.{leads-more}
+use Rattle.junctions.proofs.Sets.{and-holds, or-holds, less-holds, none-holds}
+use Rattle.growth.specs.Growth.{Leads, apart, Search-part, Meeting}
+use Rattle.growth.proofs.Searches.{Beside, leads-more}
 
 -- a set without another
 abbrev pub less : (a b : ℕ) → ℕ
@@ -48,15 +46,6 @@ keeping-start out set heads =
       led = λ y l t. clash t (none-holds y);
     }
 
--- the lowest head of the rest is the next, and all others of it are left
-pub next-head : (rest : ℕ) → 0 < rest → rest < 2 ^ 64 → holds rest (suc (trailingZeros 64 rest)) ≡ true
-next-head rest some fits = ap (holds rest) (sym (add-one (trailingZeros 64 rest))) ∙ lowest-is rest some fits .in-it
-
-pub next-rest :
-    (rest i : ℕ) → 0 < rest → rest < 2 ^ 64 → 1 ≤ i → holds (bitAnd rest (rest - 1)) i ≡ (holds rest i && not (eqb i (suc (trailingZeros 64 rest))))
-next-rest rest i some fits l =
-    clear-holds rest i some fits l ∙ ap (λ (n : ℕ). holds rest i && not (eqb i n)) (add-one (trailingZeros 64 rest))
-
 pub head-free :
     (out : ℕ → ℕ) (set heads other rest h : ℕ) → 1 ≤ h → holds rest h ≡ true → ((y : ℕ) → 1 ≤ y → holds heads y ≡ true → holds set y ≡ false) →
     Keeping out set heads other rest → holds set h ≡ false
@@ -64,20 +53,20 @@ unfolding Within
 head-free out set heads other rest h low in-rest outside k = outside h low (k .rest-in h low in-rest)
 
 -- the search from head h of the rest
-module _ (out : ℕ → ℕ) (set heads other rest h seen met : ℕ) (low : 1 ≤ h) (in-rest : holds rest h ≡ true)
-    (outside : (y : ℕ) → 1 ≤ y → holds heads y ≡ true → holds set y ≡ false) (k : Keeping out set heads other rest)
-    (s : Searched out set other h seen met) where
+module _ (out : ℕ → ℕ) (set heads other rest h held : ℕ) (low : 1 ≤ h) (in-rest : holds rest h ≡ true)
+    (k : Keeping out set heads other rest) (s : Beside out set other h held) where
   in-heads : holds heads h ≡ true
   unfolding Within
   in-heads = k .rest-in h low in-rest
 
   -- it met a search before
-  pub keeping-met : (met ≡ 0 → ⊥) → Meeting out set heads met
+  pub keeping-met : (bitAnd held other ≡ 0 → ⊥) → Meeting out set heads (bitAnd held other)
   unfolding Within
   keeping-met some =
       record {
         met = λ y l t.
-            let there = s .met-other y l t in
+            let both = sym (and-holds held other y) ∙ t in
+            let there = and-r (holds held y) (holds other y) both in
             let free = k .beside y l there in
             let from = k .led y l there in (
               free,
@@ -92,39 +81,37 @@ module _ (out : ℕ → ℕ) (set heads other rest h seen met : ℕ) (low : 1 �
                 second-head = in-heads;
                 beside = k .beside;
                 by-first = from .3;
-                by-second = leads-more out (λ x. holds seen x && apart set other x) (apart set other) h y
-                    (λ x lx p. and-r (holds seen x) (apart set other x) p) (s .led y l (s .met-seen y l t) free);
+                by-second = leads-more out (λ x. holds held x && not (holds other x)) (apart set other) h y
+                    (λ x lx p.
+                    ap not (or-false-i (holds set x) (holds other x) (s .free x lx (and-l (holds held x) (not (holds other x)) p))
+                    (not-true (holds other x) (and-r (holds held x) (not (holds other x)) p))))
+                    (s .led y l (and-l (holds held y) (holds other y) both));
               },
             );
         none = λ e. absurd (some e);
       }
 
-  -- it met none: what it has seen beside the set is one more part
-  module _ (rest′ : ℕ) (none : met ≡ 0) (rest-is : (i : ℕ) → 1 ≤ i → holds rest′ i ≡ (holds rest i && not (eqb i h))) where
-    abbrev fresh : ℕ
-    fresh = less seen set
-
+  -- it met none: what it holds is one more part
+  module _ (rest′ : ℕ) (none : bitAnd held other ≡ 0) (rest-is : (i : ℕ) → 1 ≤ i → holds rest′ i ≡ (holds rest i && not (eqb i h))) where
     abbrev other′ : ℕ
-    other′ = bitOr other fresh
+    other′ = bitOr other held
 
     keeps : (i : ℕ) → holds other i ≡ true → holds other′ i ≡ true
-    keeps i t = or-holds other fresh i ∙ or-l (holds other i) (holds fresh i) t
+    keeps i t = or-holds other held i ∙ or-l (holds other i) (holds held i) t
 
-    gains : (i : ℕ) → holds fresh i ≡ true → holds other′ i ≡ true
-    gains i t = or-holds other fresh i ∙ or-r (holds other i) (holds fresh i) t
+    gains : (i : ℕ) → holds held i ≡ true → holds other′ i ≡ true
+    gains i t = or-holds other held i ∙ or-r (holds other i) (holds held i) t
 
-    other-cases : (i : ℕ) → holds other′ i ≡ true → (holds other i ≡ true) ⊎ (holds fresh i ≡ true)
-    other-cases i t = or-cases (holds other i) (holds fresh i) (sym (or-holds other fresh i) ∙ t)
+    other-cases : (i : ℕ) → holds other′ i ≡ true → (holds other i ≡ true) ⊎ (holds held i ≡ true)
+    other-cases i t = or-cases (holds other i) (holds held i) (sym (or-holds other held i) ∙ t)
 
-    fresh-clear : (i : ℕ) → 1 ≤ i → holds fresh i ≡ true → holds other i ≡ false
-    fresh-clear i l t = s .clear none i l (less-l seen set i t) (less-r seen set i t)
+    unmet : (y : ℕ) → 1 ≤ y → holds other y ≡ true → holds held y ≡ false
+    unmet y l t =
+        not-true-false (holds held y)
+        (λ e. clash (and-holds held other y ∙ and-i (holds held y) (holds other y) e t) (ap (λ (w : ℕ). holds w y) none ∙ none-holds y))
 
-    fresh-shut : (x y : ℕ) → 1 ≤ x → x ≤ 64 → 1 ≤ y → holds fresh x ≡ true → holds (out x) y ≡ true → holds set y ≡ false → holds fresh y ≡ true
-    unfolding Within
-    fresh-shut x y lx ux ly t a f = less-i seen set y (s .shut none x lx ux (less-l seen set x t) (less-r seen set x t) y ly a) f
-
-    fresh-head : holds fresh h ≡ true
-    fresh-head = less-i seen set h (s .head) (head-free out set heads other rest h low in-rest outside k)
+    held-clear : (i : ℕ) → 1 ≤ i → holds held i ≡ true → holds other i ≡ false
+    held-clear i l t = not-true-false (holds other i) (λ o. clash t (unmet i l o))
 
     -- the heads searched are those before, and h
     head-more : (i : ℕ) → 1 ≤ i → holds (less heads rest) i ≡ true → holds (less heads rest′) i ≡ true
@@ -153,33 +140,33 @@ module _ (out : ℕ → ℕ) (set heads other rest h seen met : ℕ) (low : 1 �
           head = head-more i (p .low) (p .head);
           here = p .here;
           sole = λ j l t e.
-              ⊎-elim (λ (q : j ≡ h). clash (inside j l e) (ap (holds other) q ∙ fresh-clear h low fresh-head))
+              ⊎-elim (λ (q : j ≡ h). clash (inside j l e) (ap (holds other) q ∙ held-clear h low (s .head unmet)))
               (λ (q : holds (less heads rest) j ≡ true). p .sole j l q e) (head-cases j l t);
           shut = p .shut;
           rest = λ x y lx ux ly t e a f.
               ⊎-elim (λ (q : holds other x ≡ true). let r = p .rest x y lx ux ly q e a f in (keeps y (r .0), r .1))
-              (λ (q : holds fresh x ≡ true).
-              let there = fresh-shut x y lx ux ly q a f in
-              (gains y there, not-true-false (holds part y) (λ w. clash (inside y ly w) (fresh-clear y ly there)))) (other-cases x t);
+              (λ (q : holds held x ≡ true).
+              let there = s .shut unmet x y lx ux ly q a f in
+              (gains y there, not-true-false (holds part y) (λ w. clash (inside y ly w) (held-clear y ly there)))) (other-cases x t);
         }
 
-    fresh-part : Search-part out set (less heads rest′) other′ fresh h
+    held-part : Search-part out set (less heads rest′) other′ held h
     unfolding Within
-    fresh-part =
+    held-part =
         record {
           low = low;
           head = head-here;
-          here = fresh-head;
+          here = s .head unmet;
           sole = λ j l t e.
-              ⊎-elim (λ (q : j ≡ h). q) (λ (q : holds (less heads rest) j ≡ true). clash (k .heads-in j l q) (fresh-clear j l e)) (head-cases j l t);
-          shut = fresh-shut;
+              ⊎-elim (λ (q : j ≡ h). q) (λ (q : holds (less heads rest) j ≡ true). clash (k .heads-in j l q) (held-clear j l e)) (head-cases j l t);
+          shut = s .shut unmet;
           rest = λ x y lx ux ly t e a f.
               ⊎-elim
               (λ (q : holds other x ≡ true).
               let p = k .parts x lx q in
               let there = p .3 y ly (p .4 .shut x y lx ux ly (p .2) a f) in
-              (keeps y there, not-true-false (holds fresh y) (λ w. clash there (fresh-clear y ly w))))
-              (λ (q : holds fresh x ≡ true). clash q e) (other-cases x t);
+              (keeps y there, not-true-false (holds held y) (λ w. clash there (held-clear y ly w))))
+              (λ (q : holds held x ≡ true). clash q e) (other-cases x t);
         }
 
     pub keeping-step : Keeping out set heads other′ rest′
@@ -188,16 +175,16 @@ module _ (out : ℕ → ℕ) (set heads other rest h seen met : ℕ) (low : 1 �
         record {
           rest-in = λ i l t. k .rest-in i l (and-l (holds rest i) (not (eqb i h)) (sym (rest-is i l) ∙ t));
           heads-in = λ i l t.
-              ⊎-elim (λ (q : i ≡ h). gains i (ap (holds fresh) q ∙ fresh-head))
+              ⊎-elim (λ (q : i ≡ h). gains i (ap (holds held) q ∙ s .head unmet))
               (λ (q : holds (less heads rest) i ≡ true). keeps i (k .heads-in i l q)) (head-cases i l t);
           beside = λ y l t.
-              ⊎-elim (λ (q : holds other y ≡ true). k .beside y l q) (λ (q : holds fresh y ≡ true). less-r seen set y q) (other-cases y t);
+              ⊎-elim (λ (q : holds other y ≡ true). k .beside y l q) (λ (q : holds held y ≡ true). s .free y l q) (other-cases y t);
           parts = λ y l t.
               ⊎-elim
               (λ (q : holds other y ≡ true).
               let p = k .parts y l q in
               (p .0, p .1, p .2, (λ i li e. keeps i (p .3 i li e)), old-part (p .0) (p .1) (p .3) (p .4)))
-              (λ (q : holds fresh y ≡ true). (fresh, h, q, (λ i li e. gains i e), fresh-part)) (other-cases y t);
+              (λ (q : holds held y ≡ true). (held, h, q, (λ i li e. gains i e), held-part)) (other-cases y t);
           led = λ y l t.
               ⊎-elim
               (λ (q : holds other y ≡ true).
@@ -207,19 +194,15 @@ module _ (out : ℕ → ℕ) (set heads other rest h seen met : ℕ) (low : 1 �
                 head-more (from .0) (from .1) (from .2),
                 leads-more out (holds other) (holds other′) (from .0) y (λ x lx p. keeps x p) (from .3),
               ))
-              (λ (q : holds fresh y ≡ true). (
+              (λ (q : holds held y ≡ true). (
                 h,
                 low,
                 head-here,
-                leads-more out (λ x. holds seen x && apart set other x) (holds other′) h y passes (s .led y l (less-l seen set y q) (less-r seen set y q)),
+                leads-more out (λ x. holds held x && not (holds other x)) (holds other′) h y
+                    (λ x lx p. gains x (and-l (holds held x) (not (holds other x)) p)) (s .led y l q),
               ))
               (other-cases y t);
         }
-      where
-        passes : (x : ℕ) → 1 ≤ x → (holds seen x && apart set other x) ≡ true → holds other′ x ≡ true
-        passes x l p =
-            gains x (less-i seen set x (and-l (holds seen x) (apart set other x) p)
-            (or-false-l (holds set x) (holds other x) (not-true (holds set x || holds other x) (and-r (holds seen x) (apart set other x) p))))
 
 -- all heads are searched, and none met another
 pub keeping-end : (out : ℕ → ℕ) (set heads other rest : ℕ) → rest ≡ 0 → Keeping out set heads other rest → Meeting out set heads 0

@@ -1,198 +1,92 @@
--- The search from one head beside the set, junction by junction. Assumes nothing.
+-- What a search beside the set gives, from the search that avoids the set and stops early. Assumes nothing.
 use mathlib.Core.Path.{_≡_, refl, sym, ap, _∙_}
 use mathlib.Core.Bool.{Bool, true, false, _&&_, not}
-use mathlib.Core.Logic.{_⊎_, inl, inr, ⊎-elim}
-use Prim.Native.Nat.{ℕ, suc, _+_, _-_, _*_, _%_, _^_, _≤_, _<_}
+use mathlib.Core.List.{List, [], _∷_}
+use Prim.Native.Nat.{ℕ, _+_, _-_, _^_, _≤_, _<_}
 use native.Mathlib.Omega.{arith}
-use lib.Bits.{bitAnd, bitOr, bitXor}
-use lib.Count.{trailingZeros}
-use lib.Dec.{eqb}
-use borrow.Author.Tests.{eq-eqb, eqb-true, eqb-false, not-true}
-use Rattle.laws.proofs.Booleans.{by-bool, clash, and-l, and-r, and-i, or-cases, or-l, or-r, or-false-l, or-false-r, not-true-false, not-false-true}
-use Rattle.laws.proofs.Connectives.{or-false-i}
+use lib.ListN.{length}
+use borrow.Author.Tests.{not-true}
+use Rattle.laws.specs.Lists.{at}
+use Rattle.laws.proofs.Booleans.{and-l, and-r, and-i, not-true-false}
 use Rattle.junctions.specs.Sets.{holds, Within}
-use Rattle.junctions.proofs.Bits.{one-shl}
-use Rattle.junctions.proofs.Sets.{and-holds, or-holds, less-holds, none-holds, one-holds, lowest-is}
-use Rattle.junctions.proofs.Words.{clear-holds}
-use Rattle.digraph.proofs.Expand.{left-after}
-use Rattle.growth.specs.Growth.{Leads, apart, Searched}
+use Rattle.junctions.proofs.Bounds.{junction-le}
+use Rattle.junctions.proofs.Single.{one-self}
+use Rattle.digraph.specs.Reach.{Closed, Reach}
+use Rattle.digraph.specs.Paths.{Walk, Fewest}
+use Rattle.digraph.specs.Search.{avoiding, Searched}
+use Rattle.digraph.proofs.Walks.{walk-join, walk-last}
+use Rattle.digraph.proofs.Breadth.{avoiding-holds}
+use Rattle.digraph.proofs.Reaching.{searched-reached, reached-reach}
+use Rattle.growth.specs.Growth.{Leads}
 
--- THE SEARCH UNDER WAY: what of it is to do was seen, beside the set; until it meets the others, what is done is expanded
-pub record Seeking (out : ℕ → ℕ) (set other h seen todo met : ℕ) : Type 0 where
-  pub head : holds seen h ≡ true
-  pub old : Within set seen
-  pub led : (y : ℕ) → 1 ≤ y → holds seen y ≡ true → holds set y ≡ false → Leads out (λ x. holds seen x && apart set other x) h y
-  pub met-other : Within met other
-  pub met-seen : Within met seen
-  pub pending : Within todo seen
-  pub beside : (x : ℕ) → 1 ≤ x → holds todo x ≡ true → holds set x ≡ false
-  pub expanded : met ≡ 0 → (x : ℕ) → 1 ≤ x → x ≤ 64 → holds seen x ≡ true → holds set x ≡ false → holds todo x ≡ false → Within (out x) seen
-  pub clear : met ≡ 0 → (y : ℕ) → 1 ≤ y → holds seen y ≡ true → holds set y ≡ false → holds other y ≡ false
+-- A SEARCH from h BESIDE THE SET: what it holds lies on from h over junctions held that are none of the others;
+-- where it holds none of the others it is at its end
+pub record Beside (out : ℕ → ℕ) (set other h held : ℕ) : Type 0 where
+  pub free : (y : ℕ) → 1 ≤ y → holds held y ≡ true → holds set y ≡ false
+  pub led : (y : ℕ) → 1 ≤ y → holds held y ≡ true → Leads out (λ x. holds held x && not (holds other x)) h y
+  pub head : ((y : ℕ) → 1 ≤ y → holds other y ≡ true → holds held y ≡ false) → holds held h ≡ true
+  pub shut : ((y : ℕ) → 1 ≤ y → holds other y ≡ true → holds held y ≡ false) →
+      (x y : ℕ) → 1 ≤ x → x ≤ 64 → 1 ≤ y → holds held x ≡ true → holds (out x) y ≡ true → holds set y ≡ false → holds held y ≡ true
 
 -- more junctions that pass lead to no less
 pub leads-more :
     (out : ℕ → ℕ) (pass more : ℕ → Bool) (h y : ℕ) → ((x : ℕ) → 1 ≤ x → pass x ≡ true → more x ≡ true) → Leads out pass h y → Leads out more h y
 leads-more out pass more h y grows leads t here shut = leads t here (λ x l u p. shut x l u (grows x l p))
 
--- an arc from a junction that passes leads on
-leads-on :
-    (out : ℕ → ℕ) (pass : ℕ → Bool) (h x y : ℕ) → Leads out pass h x → 1 ≤ x → x ≤ 64 → pass x ≡ true → 1 ≤ y → holds (out x) y ≡ true →
-    Leads out pass h y
-unfolding Within
-leads-on out pass h x y leads l u p k a t here shut = shut x l u p (leads t here shut) y k a
+module _ (out : ℕ → ℕ) (set other h held : ℕ) (before after : List ℕ) (low : 1 ≤ h) (high : h ≤ 64) (outside : holds set h ≡ false)
+    (fits : held < 2 ^ 64) (s : Searched 64 out h set other held before after) where
+  abbrev round : ℕ → ℕ
+  round = avoiding set out
 
--- apart from both sets
-apart-i : (set other x : ℕ) → holds set x ≡ false → holds other x ≡ false → apart set other x ≡ true
-apart-i set other x s o = ap not (or-false-i (holds set x) (holds other x) s o)
+  held-walk : (y : ℕ) → 1 ≤ y → holds held y ≡ true → (ws : List ℕ) × Walk 64 round h ws y × (length ws ≡ at after y)
+  unfolding Fewest
+  held-walk y l t = s .fewest y l (junction-le 64 held y fits t) t .0
 
--- the code's word for the head at a place
-pub head-word : (place i : ℕ) → place < 64 → 1 ≤ i → holds ((1 * 2 ^ place) % 2 ^ 64) i ≡ eqb i (suc place)
-head-word place i u l =
-    let e : suc place - 1 ≡ place = omega arith in
-    ap (λ (w : ℕ). holds w i) (one-shl place u) ∙ ap (λ (k : ℕ). holds (2 ^ k) i) (sym e) ∙ one-holds i (suc place) l (omega arith)
+  held-least : (y : ℕ) → 1 ≤ y → holds held y ≡ true → (ws : List ℕ) → Walk 64 round h ws y → at after y ≤ length ws
+  unfolding Fewest
+  held-least y l t = s .fewest y l (junction-le 64 held y fits t) t .1
 
-pub seeking-start :
-    (out : ℕ → ℕ) (set other h word : ℕ) → 1 ≤ h → holds set h ≡ false → ((i : ℕ) → 1 ≤ i → holds word i ≡ eqb i h) →
-    Seeking out set other h (bitOr set word) word (bitAnd word other)
-unfolding Within
-seeking-start out set other h word low free word-is =
-    let seen = bitOr set word in
-    let own : (i : ℕ) → 1 ≤ i → holds word i ≡ true → i ≡ h = λ i l t. eqb-true i h (sym (word-is i l) ∙ t) in
-    let fresh : (i : ℕ) → holds seen i ≡ true → holds set i ≡ false → holds word i ≡ true =
-    λ i t f. ⊎-elim (λ (a : holds set i ≡ true). clash a f) (λ (a : holds word i ≡ true). a) (or-cases (holds set i) (holds word i) (sym (or-holds set word i) ∙ t)) in
-    let within : (i : ℕ) → holds word i ≡ true → holds seen i ≡ true = λ i t. or-holds set word i ∙ or-r (holds set i) (holds word i) t in
-    record {
-      head = within h (word-is h low ∙ eq-eqb h h refl);
-      old = λ i l t. or-holds set word i ∙ or-l (holds set i) (holds word i) t;
-      led = λ y l t f s here shut. ap (holds s) (own y l (fresh y t f)) ∙ here;
-      met-other = λ i l t. and-r (holds word i) (holds other i) (sym (and-holds word other i) ∙ t);
-      met-seen = λ i l t. within i (and-l (holds word i) (holds other i) (sym (and-holds word other i) ∙ t));
-      pending = λ i l t. within i t;
-      beside = λ i l t. ap (holds set) (own i l t) ∙ free;
-      expanded = λ none x l u t f d. clash (fresh x t f) d;
-      clear = λ none y l t f.
-          not-true-false (holds other y)
-          (λ o. clash (and-holds word other y ∙ and-i (holds word y) (holds other y) (fresh y t f) o) (ap (λ (w : ℕ). holds w y) none ∙ none-holds y));
-    }
+  walk-free : (ws : List ℕ) (y : ℕ) → Walk 64 round h ws y → holds set y ≡ false
+  unfolding Walk
+  walk-free [] y c = ap (holds set) (sym c) ∙ outside
+  walk-free (w ∷ ws) y c =
+      let last = walk-last 64 round h low high w ws y c in
+      not-true (holds set y) (and-r (holds (out (last .0)) y) (not (holds set y)) (sym (avoiding-holds set out (last .0) y) ∙ last .3))
 
--- the lowest junction to do is expanded
-module _ (out : ℕ → ℕ) (set other h seen todo met found : ℕ) (some : 0 < todo) (fits : todo < 2 ^ 64)
-    (found-is : found ≡ out (trailingZeros 64 todo + 1)) (none : met ≡ 0) (s : Seeking out set other h seen todo met) where
-  abbrev x : ℕ
-  x = trailingZeros 64 todo + 1
+  -- a junction with a walk to it of fewer arcs than lead to y is held, and none of the others
+  passes : (x y : ℕ) → 1 ≤ x → x ≤ 64 → 1 ≤ y → holds held y ≡ true → (vs : List ℕ) → Walk 64 round h vs x → length vs < at after y →
+      (holds held x && not (holds other x)) ≡ true
+  passes x y lx hx ly t vs c few =
+      let hy = junction-le 64 held y fits t in
+      let here : holds held x ≡ true = s .nearer x y vs lx hx ly hy t c few in
+      and-i (holds held x) (not (holds other x)) here
+      (ap not (not-true-false (holds other x) (λ o. omega (arith, few, s .nearest x y lx hx ly hy o here t, held-least x lx here vs c))))
 
-  abbrev seen′ : ℕ
-  seen′ = bitOr seen found
+  -- along a walk to y with no more arcs than needed
+  walk-leads : (y : ℕ) → 1 ≤ y → holds held y ≡ true → (t : ℕ) →
+      ((x : ℕ) → 1 ≤ x → x ≤ 64 → (holds held x && not (holds other x)) ≡ true → holds t x ≡ true → Within (out x) t) →
+      (x : ℕ) → 1 ≤ x → x ≤ 64 → holds t x ≡ true → (vs : List ℕ) → Walk 64 round h vs x → (ws : List ℕ) → Walk 64 round x ws y →
+      length vs + length ws ≡ at after y → holds t y ≡ true
+  unfolding Walk Within
+  walk-leads y l in-it t shut x lx hx here vs c [] d e = ap (holds t) (sym d) ∙ here
+  walk-leads y l in-it t shut x lx hx here vs c (w ∷ ws) d e =
+      let on = walk-join 64 round h vs x w c (d .0) (d .1) (d .2) in
+      let arc = and-l (holds (out x) w) (not (holds set w)) (sym (avoiding-holds set out x w) ∙ d .2) in
+      walk-leads y l in-it t shut w (d .0) (d .1)
+      (shut x lx hx (passes x y lx hx l in-it vs c (omega (arith, e))) here w (d .0) arc)
+      (on .0) (on .1) ws (d .3) (omega (arith, on .2, e))
 
-  keeps : (i : ℕ) → holds seen i ≡ true → holds seen′ i ≡ true
-  keeps i t = or-holds seen found i ∙ or-l (holds seen i) (holds found i) t
+  all-reached : ((y : ℕ) → 1 ≤ y → holds other y ≡ true → holds held y ≡ false) → Reach 64 round (2 ^ (h - 1)) held
+  all-reached unmet =
+      reached-reach 64 round h held before after low high (searched-reached 64 out h set other held before after s unmet) fits
 
-  gains : (i : ℕ) → holds found i ≡ true → holds seen′ i ≡ true
-  gains i t = or-holds seen found i ∙ or-r (holds seen i) (holds found i) t
-
-  seen-cases : (i : ℕ) → holds seen′ i ≡ true → (holds seen i ≡ true) ⊎ (holds found i ≡ true)
-  seen-cases i t = or-cases (holds seen i) (holds found i) (sym (or-holds seen found i) ∙ t)
-
-  todo-cases : (i : ℕ) → 1 ≤ i → holds (left-after seen todo found) i ≡ true →
-      (holds todo i ≡ true) ⊎ ((holds found i ≡ true) × (holds seen i ≡ false))
-  todo-cases i l t =
-      ⊎-elim
-      (λ (a : holds (bitAnd todo (todo - 1)) i ≡ true). inl (and-l (holds todo i) (holds (todo - 1) i) (sym (and-holds todo (todo - 1) i) ∙ a)))
-      (λ (a : holds (bitXor found (bitAnd found seen)) i ≡ true).
-      let both = sym (less-holds found seen i) ∙ a in
-      inr (and-l (holds found i) (not (holds seen i)) both, not-true (holds seen i) (and-r (holds found i) (not (holds seen i)) both)))
-      (or-cases (holds (bitAnd todo (todo - 1)) i) (holds (bitXor found (bitAnd found seen)) i)
-      (sym (or-holds (bitAnd todo (todo - 1)) (bitXor found (bitAnd found seen)) i) ∙ t))
-
-  -- what was seen and is not to do any more is the junction itself, or was done before
-  done-before : (i : ℕ) → 1 ≤ i → holds (left-after seen todo found) i ≡ false → eqb i x ≡ false → holds todo i ≡ false
-  done-before i l f differ =
-      not-true-false (holds todo i)
-      (λ t.
-      clash (clear-holds todo i some fits l ∙ and-i (holds todo i) (not (eqb i x)) t (ap not differ))
-      (or-false-l (holds (bitAnd todo (todo - 1)) i) (holds (bitXor found (bitAnd found seen)) i)
-      (sym (or-holds (bitAnd todo (todo - 1)) (bitXor found (bitAnd found seen)) i) ∙ f)))
-
-  seen-before : (i : ℕ) → holds (left-after seen todo found) i ≡ false → holds seen′ i ≡ true → holds seen i ≡ true
-  seen-before i f t =
-      ⊎-elim (λ (a : holds seen i ≡ true). a)
-      (λ (a : holds found i ≡ true).
-      not-false-true (holds seen i)
-      (λ e.
-      clash (less-holds found seen i ∙ and-i (holds found i) (not (holds seen i)) a (ap not e))
-      (or-false-r (holds (bitAnd todo (todo - 1)) i) (holds (bitXor found (bitAnd found seen)) i)
-      (sym (or-holds (bitAnd todo (todo - 1)) (bitXor found (bitAnd found seen)) i) ∙ f))))
-      (seen-cases i t)
-
-  pass-more : (i : ℕ) → 1 ≤ i → (holds seen i && apart set other i) ≡ true → (holds seen′ i && apart set other i) ≡ true
-  pass-more i l t =
-      and-i (holds seen′ i) (apart set other i) (keeps i (and-l (holds seen i) (apart set other i) t)) (and-r (holds seen i) (apart set other i) t)
-
-  -- what the junction's arcs find lies on from the head
-  found-led : (y : ℕ) → 1 ≤ y → holds found y ≡ true → Leads out (λ i. holds seen′ i && apart set other i) h y
-  unfolding Within
-  found-led y l t =
-      let low = lowest-is todo some fits in
-      let was : holds seen x ≡ true = s .pending x (low .from-one) (low .in-it) in
-      let free : holds set x ≡ false = s .beside x (low .from-one) (low .in-it) in
-      leads-on out (λ i. holds seen′ i && apart set other i) h x y
-      (leads-more out (λ i. holds seen i && apart set other i) (λ i. holds seen′ i && apart set other i) h x pass-more (s .led x (low .from-one) was free))
-      (low .from-one) (low .to-last)
-      (and-i (holds seen′ x) (apart set other x) (keeps x was) (apart-i set other x free (s .clear none x (low .from-one) was free)))
-      l (ap (λ (w : ℕ). holds w y) (sym found-is) ∙ t)
-
-  pub seeking-step : Seeking out set other h seen′ (left-after seen todo found) (bitAnd found other)
-  unfolding Within
-  seeking-step =
+  pub searched-beside : Beside out set other h held
+  unfolding Closed Within Walk
+  searched-beside =
       record {
-        head = keeps h (s .head);
-        old = λ i l t. keeps i (s .old i l t);
-        led = λ y l t f.
-            ⊎-elim
-            (λ (a : holds seen y ≡ true).
-            leads-more out (λ i. holds seen i && apart set other i) (λ i. holds seen′ i && apart set other i) h y pass-more (s .led y l a f))
-            (λ (a : holds found y ≡ true). found-led y l a) (seen-cases y t);
-        met-other = λ i l t. and-r (holds found i) (holds other i) (sym (and-holds found other i) ∙ t);
-        met-seen = λ i l t. gains i (and-l (holds found i) (holds other i) (sym (and-holds found other i) ∙ t));
-        pending = λ i l t.
-            ⊎-elim (λ (a : holds todo i ≡ true). keeps i (s .pending i l a))
-            (λ (a : (holds found i ≡ true) × (holds seen i ≡ false)). gains i (a .0)) (todo-cases i l t);
-        beside = λ i l t.
-            ⊎-elim (λ (a : holds todo i ≡ true). s .beside i l a)
-            (λ (a : (holds found i ≡ true) × (holds seen i ≡ false)). not-true-false (holds set i) (λ e. clash (s .old i l e) (a .1)))
-            (todo-cases i l t);
-        expanded = λ e i l u t f d y k a.
-            by-bool (eqb i x)
-            (λ q. gains y (ap (λ (w : ℕ). holds w y) found-is ∙ ap (λ (j : ℕ). holds (out j) y) (sym (eqb-true i x q)) ∙ a))
-            (λ q. keeps y (s .expanded none i l u (seen-before i d t) f (done-before i l d q) y k a));
-        clear = λ e y l t f.
-            ⊎-elim (λ (a : holds seen y ≡ true). s .clear none y l a f)
-            (λ (a : holds found y ≡ true).
-            not-true-false (holds other y)
-            (λ o. clash (and-holds found other y ∙ and-i (holds found y) (holds other y) a o) (ap (λ (w : ℕ). holds w y) e ∙ none-holds y)))
-            (seen-cases y t);
+        free = λ y l t. let w = held-walk y l t in walk-free (w .0) y (w .1);
+        led = λ y l t all here shut. let w = held-walk y l t in walk-leads y l t all shut h low high here [] refl (w .0) (w .1) (omega (arith, w .2));
+        head = λ unmet. all-reached unmet .contains h low (one-self h low);
+        shut = λ unmet x y lx hx ly t a f.
+            all-reached unmet .closed x lx hx t y ly (avoiding-holds set out x y ∙ and-i (holds (out x) y) (not (holds set y)) a (ap not f));
       }
-
--- what the loop's test says
-pub goes-on : (todo met : ℕ) → (not (eqb todo 0) && eqb met 0) ≡ true → (0 < todo) × (met ≡ 0)
-goes-on todo met t =
-    let some = eqb-false todo 0 (not-true (eqb todo 0) (and-l (not (eqb todo 0)) (eqb met 0) t)) in
-    (omega (arith, some), eqb-true met 0 (and-r (not (eqb todo 0)) (eqb met 0) t))
-
-pub is-over : (todo met : ℕ) → (not (eqb todo 0) && eqb met 0) ≡ false → met ≡ 0 → todo ≡ 0
-is-over todo met f e =
-    by-bool (eqb todo 0) (λ t. eqb-true todo 0 t) (λ t. clash (and-i (not (eqb todo 0)) (eqb met 0) (ap not t) (eq-eqb met 0 e)) f)
-
--- the search is over once it met the others, or nothing is to do
-pub seeking-end :
-    (out : ℕ → ℕ) (set other h seen todo met : ℕ) → (met ≡ 0 → todo ≡ 0) → Seeking out set other h seen todo met → Searched out set other h seen met
-seeking-end out set other h seen todo met over s =
-    record {
-      head = s .head;
-      old = s .old;
-      led = s .led;
-      met-other = s .met-other;
-      met-seen = s .met-seen;
-      shut = λ e x l u t f. s .expanded e x l u t f (ap (λ (w : ℕ). holds w x) (over e) ∙ none-holds x);
-      clear = s .clear;
-    }

@@ -4,21 +4,20 @@ use mathlib.Core.Bool.{Bool, true, false, _&&_, _||_, not}
 use mathlib.Core.Logic.{_⊎_, inl, inr, ⊎-elim}
 use Prim.Native.Nat.{ℕ, _+_, _-_, _^_, _≤_, _<_}
 use native.Mathlib.Omega.{arith}
-use lib.Bits.{bitAnd, bitOr, bitXor, or-lt, and-le-l}
+use lib.Bits.{bitAnd, bitOr, or-lt, and-le-l}
 use lib.Count.{trailingZeros}
 use lib.Dec.{eqb}
 use borrow.Author.Tests.{eq-eqb, eqb-true, not-true}
 use Rattle.laws.proofs.Booleans.{by-bool, clash, and-l, and-r, and-i, or-cases, or-l, or-r, or-false-l, or-false-r, not-true-false, not-false-true}
 use Rattle.junctions.specs.Sets.{holds, Within}
-use Rattle.junctions.proofs.Sets.{and-holds, or-holds, less-holds, lowest-is}
-use Rattle.junctions.proofs.Words.{clear-holds}
+use Rattle.junctions.proofs.Sets.{and-holds, or-holds, lowest-is}
 use Rattle.junctions.proofs.Single.{one-lt, one-within}
 use Rattle.digraph.specs.Reach.{Closed, Reach}
-use Rattle.digraph.proofs.Expand.{left-after, expand-fits}
 use Rattle.growth.specs.Robust.{arcs-without, Robust}
 use Rattle.growth.specs.Growth.{All-robust, done, Growing}
 use Rattle.growth.proofs.Cut.{cut-stays}
 use Rattle.growth.proofs.Reached.{reach-some}
+use Rattle.growth.proofs.Expanding.{left-after, left-holds, expand-fits}
 
 -- u is in all that v reaches
 abbrev Led : (out : ℕ → ℕ) → (v u : ℕ) → Type 0
@@ -239,8 +238,7 @@ growing-step out solids v set todo once next strong near some fits next-is stron
     ∙ ap₂ _&&_ (ap (λ (s : ℕ). holds s i) next-is)
     (or-holds strong once i ∙ ap (λ (s : ℕ). holds s i || holds once i) strong-is)))
     (or-holds set sure)
-    (λ i l.
-    or-holds (bitAnd todo (todo - 1)) (bitXor sure (bitAnd sure set)) i ∙ ap₂ _||_ (clear-holds todo i some fits l) (less-holds sure set i))
+    (left-holds set todo sure some fits)
     (λ i. or-holds once next i ∙ ap (λ (s : ℕ). holds once i || holds s i) next-is) near-robust g
 
 pub growing-fits :

@@ -1,7 +1,8 @@
 -- What holds while a robust set grows. Assumes nothing: these are definitions.
 use mathlib.Core.Path.{_≡_}
 use mathlib.Core.Bool.{Bool, true, false, _&&_, _||_, not}
-use Prim.Native.Nat.{ℕ, _≤_}
+use Prim.Native.Nat.{ℕ, suc, _≤_}
+use Rattle.laws.specs.Finite.{count-below}
 use Rattle.junctions.specs.Sets.{holds, Within}
 use Rattle.growth.specs.Robust.{Robust}
 
@@ -16,6 +17,10 @@ Known out solids near = (x : ℕ) → 1 ≤ x → x ≤ 64 → All-robust out so
 -- junction x is in the set, and not to do
 abbrev pub done : (set todo x : ℕ) → Bool
 done set todo x = holds set x && not (holds todo x)
+
+-- how many of n junctions are not in the set, or to do
+unfoldable pub unexpanded : (n set todo : ℕ) → ℕ
+unexpanded n set todo = count-below n (λ k. not (holds set (suc k)) || holds todo (suc k))
 
 -- A SET THAT GROWS: its junctions are robust from v, of which the set holds the arcs that are solid; `once` has all that the
 -- done junctions have arcs to, and what of that is outside the set has one such arc only
@@ -37,17 +42,6 @@ Leads out pass h y =
 -- x is in neither of two sets
 abbrev pub apart : (set other x : ℕ) → Bool
 apart set other x = not (holds set x || holds other x)
-
--- A SEARCH from h that goes no further from the set: what it has seen beside the set lies on from h over junctions seen, apart
--- from the set and the other junctions; where it met none of these it is at its end, and saw none of them
-pub record Searched (out : ℕ → ℕ) (set other h seen met : ℕ) : Type 0 where
-  pub head : holds seen h ≡ true
-  pub old : Within set seen
-  pub led : (y : ℕ) → 1 ≤ y → holds seen y ≡ true → holds set y ≡ false → Leads out (λ x. holds seen x && apart set other x) h y
-  pub met-other : Within met other
-  pub met-seen : Within met seen
-  pub shut : met ≡ 0 → (x : ℕ) → 1 ≤ x → x ≤ 64 → holds seen x ≡ true → holds set x ≡ false → Within (out x) seen
-  pub clear : met ≡ 0 → (y : ℕ) → 1 ≤ y → holds seen y ≡ true → holds set y ≡ false → holds other y ≡ false
 
 -- TWO SEARCHES MEET in y: one head leads to it over other junctions only, a second head over junctions apart from these and from the set
 pub record Met (out : ℕ → ℕ) (set heads y : ℕ) : Type 0 where

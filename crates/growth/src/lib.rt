@@ -2,12 +2,12 @@
 // are known, and by junctions in which two searches from it meet.
 ghost use mathlib.Core.Path.{_≡_};
 ghost use mathlib.Core.Bool.{true, false};
-ghost use Prim.Native.Nat.{ℕ, suc, _≤_, _<_};
+ghost use Prim.Native.Nat.{ℕ, _≤_};
 ghost use lib.Bits.{bitOr};
 ghost use Rattle.laws.specs.Lists.{at};
 ghost use Rattle.junctions.specs.Sets.{holds, Within};
 ghost use Rattle.growth.specs.Robust.{RobustSet};
-ghost use Rattle.growth.specs.Growth.{Known, Growing, Searched, Meeting};
+ghost use Rattle.growth.specs.Growth.{Known, Growing, Meeting};
 
 // A set, and the junctions that arcs from it lead to.
 struct Grown {
@@ -48,46 +48,22 @@ fn grow<'a>(
     }
 }
 
-// What a search has seen, and which junctions of earlier searches it met.
-struct Seen {
-    seen: u64,
-    met: u64,
-}
-
-// The search from the head at a place, which goes no further from the set, until it meets the other junctions.
-fn search_beside(arcs: &[u64; 64], set: u64, other: u64, place: usize) -> Seen
-    requires { ⌜ (place < 64) × (holds set (suc place) ≡ false) ⌝ }
-    ensures { λ r. ⌜ Searched (at (now (arcs .entry))) set other (suc place) (r .seen) (r .met) ⌝ }
-{
-    let mut todo: u64 = 1 << place;
-    let mut seen = set | todo;
-    let mut met = todo & other;
-    while (todo != 0) & (met == 0) {
-        let x = (u64::trailing_zeros(todo) as usize) + 1;
-        let found = digraph::arcs(arcs, x);
-        todo = (todo & (todo - 1)) | (found ^ (found & seen));
-        seen = seen | found;
-        met = found & other;
-    }
-    Seen { seen, met }
-}
-
 // Junctions in which the searches from two heads meet; none where these searches keep apart.
 fn meeting(arcs: &[u64; 64], set: u64, heads: u64) -> u64
     requires { ⌜ ((y : ℕ) → 1 ≤ y → holds heads y ≡ true → holds set y ≡ false) ⌝ }
     ensures { λ r. ⌜ Meeting (at (now (arcs .entry))) set heads r ⌝ }
 {
     let mut other: u64 = 0;
+    let mut distances = [0u8; 64];
     let mut rest = heads;
     while rest != 0 {
         let place = u64::trailing_zeros(rest) as usize;
-        let search = search_beside(arcs, set, other, place);
-        let met = search.met;
+        let held = digraph::reach_until(arcs, place + 1, set, other, &mut distances);
+        let met = held & other;
         if met != 0 {
             return met;
         }
-        let seen = search.seen;
-        other = other | (seen ^ (seen & set));
+        other = other | held;
         rest = rest & (rest - 1);
     }
     0

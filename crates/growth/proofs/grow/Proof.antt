@@ -9,8 +9,7 @@ use Rattle.laws.specs.Lists.{at}
 use Rattle.junctions.specs.Sets.{Within}
 use Rattle.junctions.proofs.Bits.{trailing-lt}
 use Rattle.junctions.proofs.Sets.{lowest-is}
-use Rattle.digraph.specs.Search.{unexpanded}
-use Rattle.growth.specs.Growth.{Known, Growing}
+use Rattle.growth.specs.Growth.{Known, unexpanded, Growing}
 use Rattle.growth.proofs.Sure.{sure-of, growing-step, growing-fits, within-more, more-within}
 use Rattle.growth.proofs.Expanding.{pending-less, pending-within}
 use borrow.Author.Needs.{needs}
