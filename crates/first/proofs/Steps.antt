@@ -3,7 +3,7 @@ use mathlib.Core.Bool.{Bool, true, false, _||_, not}
 use mathlib.Core.List.{List}
 use mathlib.Core.Logic.{⊎-elim}
 use mathlib.Core.Path.{_≡_, refl, sym, ap, subst, _∙_}
-use Prim.Native.Nat.{ℕ, suc, _+_, _-_, _*_, _%_, _^_, _≤_, _<_}
+use Prim.Native.Nat.{ℕ, suc, _+_, _-_, _^_, _≤_, _<_}
 use native.Mathlib.Omega.{arith}
 use lib.Dec.{ltb}
 use lib.ListN.{length, getD, List·getD-eq-default}
@@ -11,7 +11,6 @@ use borrow.Author.Tests.{ltb-true, ltb-false}
 use Rattle.laws.specs.Lists.{at}
 use Rattle.laws.proofs.Booleans.{by-bool, or-cases, or-false-r}
 use Rattle.junctions.specs.Sets.{holds}
-use Rattle.junctions.proofs.Bits.{one-shl}
 use Rattle.junctions.proofs.Single.{one-lt}
 use Rattle.digraph.specs.Paths.{Distances}
 use Rattle.digraph.specs.Reach.{Reach}
@@ -93,7 +92,7 @@ module _ (h : Hall) (rg : Ranged h) (n m : ℕ) (ts hs : List ℕ) (few : n ≤ 
   moves i l u = later i l (omega (arith, cols .rows))
 
   module _ (sets : List ℕ) (graph : Zero-graph h (flagged movable) (at costs) (at potential) (flagged chosen) sets)
-      (r : ℕ) (reach : Reach 64 (at sets) ((1 * 2 ^ a) % 2 ^ 64) r) where
+      (r : ℕ) (reach : Reach 64 (at sets) (2 ^ a) r) where
     abbrev zero : ℕ → ℕ
     zero = zero-arcs h (flagged movable) (at costs) (at potential) (flagged chosen)
 
@@ -104,7 +103,7 @@ module _ (h : Hall) (rg : Ranged h) (n m : ℕ) (ts hs : List ℕ) (few : n ≤ 
         let u = rg .from-high (suc k) (omega arith) row-high in
         let small : h .n ≤ 64 = omega (arith, cols .junctions) in
         let place : row h (suc k) .from - 1 ≡ a = omega (arith, from-is) in
-        let start : Reach 64 (at sets) (2 ^ (row h (suc k) .from - 1)) r = rw place (rw (one-shl a (omega (arith, from-is))) at reach) in
+        let start : Reach 64 (at sets) (2 ^ (row h (suc k) .from - 1)) r = rw place reach in
         let inside : (j : ℕ) → 1 ≤ j → j ≤ h .n → at sets j < 2 ^ h .n =
         λ j lj uj. subst (λ (x : ℕ). x < 2 ^ h .n) (sym (graph .inside j lj uj)) (zero-arcs-lt h (flagged movable) (at costs) (at potential) (flagged chosen) j) in
         reach-same (h .n) (at sets) zero (graph .inside) (2 ^ (row h (suc k) .from - 1)) r

@@ -55,9 +55,9 @@ pub fn change<'a>(
         potential,
         around,
     );
-    let reached = digraph::reach(&arcs, 1 << tail);
+    let mut distances = [64u8; 64];
+    let reached = digraph::reach(&arcs, tail + 1, &mut distances);
     if has(reached, head) {
-        let distances = digraph::distances(&arcs, tail + 1);
         let next = flip(
             m,
             tails,

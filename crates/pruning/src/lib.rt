@@ -19,18 +19,9 @@ fn leads(arcs: &[u64; 64], start: usize, target: usize) -> bool
     requires { ⌜ (1 ≤ start) × (start ≤ 64) × (1 ≤ target) × (target ≤ 64) ⌝ }
     ensures { λ r. ⌜ (r ≡ true → (t : ℕ) → holds t start ≡ true → Closed 64 (at (now (arcs .entry))) t → holds t target ≡ true) ⌝ }
 {
-    let mut reached: u64 = 1 << (start - 1);
-    let mut todo = reached;
-    while todo != 0 {
-        if (reached >> (target - 1)) % 2 == 1 {
-            return true;
-        }
-        let next = (u64::trailing_zeros(todo) as usize) + 1;
-        let found = digraph::arcs(arcs, next);
-        todo = (todo & (todo - 1)) | (found ^ (found & reached));
-        reached = reached | found;
-    }
-    false
+    let goal: u64 = 1 << (target - 1);
+    let mut distances = [0u8; 64];
+    digraph::reach_until(arcs, start, 0, goal, &mut distances) & goal != 0
 }
 
 // Whether one of the rows runs from the tail of the row at place k to its head. All bytes, so that many rows are compared at once.

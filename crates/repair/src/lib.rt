@@ -106,9 +106,9 @@ pub fn repair_step<'a>(
         potential,
         around,
     );
-    let reached = digraph::reach(&graph, 1 << (head - 1));
+    let mut distances = [64u8; 64];
+    let reached = digraph::reach(&graph, head, &mut distances);
     if has(reached, tail - 1) {
-        let distances = digraph::distances(&graph, head);
         let next = flip(
             m,
             tails,

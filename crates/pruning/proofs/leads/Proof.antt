@@ -1,95 +1,45 @@
--- `pruning::leads` expands one junction a turn. The invariant: what is reached lies in every closed set with the start. The measure is the junctions not yet expanded. Assumes nothing.
-use mathlib.Core.Path.{refl}
-use Prim.Native.Nat.{_-_, _^_, _<_}
+-- `pruning::leads` says true only where the target is in every closed set with the start: the search from the start holds it. Assumes nothing.
+use mathlib.Core.Path.{_≡_, sym, ap, _∙_}
+use mathlib.Core.Bool.{true}
+use Prim.Native.Nat.{ℕ, _-_, _*_, _%_, _^_, _≤_, _<_}
 use native.Mathlib.Omega.{arith}
-use lib.Count.{trailing-le}
-use borrow.Author.Tests.{eq-eqb}
-use Rattle.laws.specs.Lists.{at}
-use Rattle.laws.proofs.Booleans.{clash}
-use Rattle.junctions.specs.Sets.{holds, Within}
-use Rattle.junctions.proofs.Bits.{one-shl, trailing-lt}
-use Rattle.junctions.proofs.Single.{one-lt, one-within}
-use Rattle.digraph.specs.Search.{Searching, unexpanded}
-use Rattle.digraph.proofs.Search.{search-start}
-use Rattle.digraph.proofs.Expand.{expand-fits, expand-step, expand-less}
+use lib.Bits.{bitAnd, and-le-l}
+use lib.Dec.{eqb}
+use lib.ListN.{replicate}
+use borrow.Author.Tests.{eqb-true, eqb-false, not-true}
 use borrow.Author.Needs.{needs}
+use Rattle.laws.specs.Lists.{at}
+use Rattle.laws.proofs.Booleans.{and-l, and-r}
+use Rattle.junctions.specs.Sets.{holds}
+use Rattle.junctions.proofs.Bits.{one-shl}
+use Rattle.junctions.proofs.Sets.{and-holds, one-holds, some-junction}
+use Rattle.digraph.proofs.Reaching.{searched-within}
 use Rattle.pruning.proofs.leads.Statement.{statement}
 use Rattle.pruning.proofs.leads.Tie as tie
 
-abbrev Inv-loop : tie.InvT-loop
-Inv-loop arcs start target reached₀ todo₀ reached todo = (todo < 2 ^ 64) × Searching 64 (at arcs) (2 ^ (start - 1)) reached todo
+-- a set that meets the target's holds it
+meets-one : (held goal target : ℕ) → held < 2 ^ 64 → 1 ≤ target → goal ≡ 2 ^ (target - 1) → (bitAnd held goal ≡ 0 → ⊥) → holds held target ≡ true
+meets-one held goal target fits low is some =
+    let w = some-junction 64 (bitAnd held goal) (omega (arith, some)) (omega (arith, fits, and-le-l held goal)) in
+    let both = sym (and-holds held goal (w .0)) ∙ w .3 in
+    let own : w .0 ≡ target =
+    eqb-true (w .0) target (sym (one-holds (w .0) target (w .1) low) ∙ ap (λ (s : ℕ). holds s (w .0)) (sym is) ∙ and-r (holds held (w .0)) (holds goal (w .0)) both) in
+    ap (holds held) (sym own) ∙ and-l (holds held (w .0)) (holds goal (w .0)) both
 
-abbrev μ-loop : tie.MeasureT-loop
-μ-loop arcs start target reached₀ todo₀ reached todo = unexpanded 64 reached todo
+sub-goal : tie.Need-sub-goal
+sub-goal c = search needs
 
--- the loop, from the end of a turn
-abbrev at-loop : tie.After-arcs Inv-loop μ-loop → tie.At-loop Inv-loop μ-loop
-at-loop c = c .before .before .before
+shl-goal : tie.Need-shl-goal
+shl-goal c = search needs
 
-sub-reached : tie.Need-sub-reached Inv-loop μ-loop
-sub-reached c = search needs
+reach-until-requires : tie.Need-reach-until-requires
+reach-until-requires c κs = search needs
 
-shl-reached : tie.Need-shl-reached Inv-loop μ-loop
-shl-reached c = search needs
-
-loop-holds : tie.Need-loop-holds Inv-loop μ-loop
-loop-holds c =
-    let a = c .args in
-    rw (one-shl (a .start - 1) (omega (arith, c .pre .1))) (one-lt 64 (a .start) (c .pre .0) (c .pre .1), search-start 64 (at (a .arcs .now)) (2 ^ (a .start - 1)))
-
-sub-if1 : tie.Need-sub-if1 Inv-loop μ-loop
-sub-if1 c = search needs
-
-shr-if1 : tie.Need-shr-if1 Inv-loop μ-loop
-shr-if1 c = search needs
-
-returns : tie.Need-returns Inv-loop μ-loop
-unfolding holds Within
-returns c = λ _ t has closed.
-    let l = c .before .before in let s = l .before in
-    l .loop .inv .1 .least t (one-within t (s .args .start) (s .pre .0) has) closed (s .args .target) (s .pre .2) (eq-eqb _ 1 (c .if1 .taken))
-
-cast-next : tie.Need-cast-next Inv-loop μ-loop
-cast-next c = record { fits = omega (arith, trailing-le 64 (c .before .before .loop .todo)) }
-
-add-next : tie.Need-add-next Inv-loop μ-loop
-add-next c = record { fits = omega (arith, trailing-le 64 (c .before .before .loop .todo)) }
-
-arcs-requires : tie.Need-arcs-requires Inv-loop μ-loop
-arcs-requires c κs = (omega arith, omega (arith, trailing-lt 64 (c .before .before .loop .todo) (omega arith) (c .before .before .loop .inv .0)))
-
-sub-todo : tie.Need-sub-todo Inv-loop μ-loop
-sub-todo c = search needs
-
-loop-less : tie.Need-loop-less Inv-loop μ-loop
-loop-less c = let l = at-loop c .loop in let a = at-loop c .before .args in
-    expand-less (at (a .arcs .now)) (2 ^ (a .start - 1)) (l .reached) (l .todo) (c .arcs .result) (omega arith) (l .inv .0) (c .arcs .ensures) (l .inv .1)
-
-loop-again : tie.Need-loop-again Inv-loop μ-loop
-loop-again c = let l = at-loop c .loop in let a = at-loop c .before .args in (
-  expand-fits (l .reached) (l .todo) (c .arcs .result) (l .inv .0) (omega (arith, c .arcs .ok)),
-  expand-step (at (a .arcs .now)) (2 ^ (a .start - 1)) (l .reached) (l .todo) (c .arcs .result) (omega arith) (l .inv .0) (c .arcs .ensures) (l .inv .1),
-)
-
-returns-2 : tie.Need-returns-2 Inv-loop μ-loop
-returns-2 c = λ e. clash e refl
+returns : tie.Need-returns
+returns c = λ e t here shut. let at-start = c .before .before in let a = at-start .args in let p = at-start .pre in let held = c .reach-until .result in
+    let goal = (1 * 2 ^ (a .target - 1)) % 2 ^ 64 in
+    searched-within 64 (at (a .arcs .now)) (a .start) goal held (replicate 64 0) _ (p .0) (p .1) (c .reach-until .ensures) (a .target) (p .2) (p .3)
+    (meets-one held goal (a .target) (omega (arith, c .reach-until .ok)) (p .2) (one-shl (a .target - 1) (omega arith)) (eqb-false (bitAnd held goal) 0 (not-true (eqb (bitAnd held goal) 0) e))) t here shut
 
 pub leads-spec : {M : Type 1} → statement M
-leads-spec =
-    tie.close
-    (tie.spec
-    Inv-loop
-    μ-loop
-    sub-reached
-    shl-reached
-    loop-holds
-    sub-if1
-    shr-if1
-    returns
-    cast-next
-    add-next
-    arcs-requires
-    sub-todo
-    loop-less
-    loop-again
-    returns-2)
+leads-spec = tie.close (tie.spec sub-goal shl-goal reach-until-requires returns)

@@ -1,17 +1,16 @@
 -- Repair_step flips where the row's tail is reached from its head, and raises what is reached where it is not. Assumes nothing.
-use mathlib.Core.Path.{_≡_, sym, subst, _∙_}
+use mathlib.Core.Path.{_≡_, refl, sym, subst, _∙_}
 use mathlib.Core.Bool.{true, false}
-use Prim.{tt}
 use Prim.Native.Nat.{ℕ, suc, _-_, _^_, _≤_}
 use native.Mathlib.Omega.{arith}
-use mir.Syntax.{w64}
-use borrow.Author.Needs.{needs, elem-fits}
+use lib.ListN.{replicate, getD-replicate}
+use borrow.Author.Needs.{needs}
 use Rattle.laws.specs.Lists.{at}
 use Rattle.junctions.specs.Sets.{holds}
-use Rattle.junctions.proofs.Bits.{one-shl}
 use Rattle.digraph.specs.Reach.{Reach}
+use Rattle.digraph.specs.Paths.{Distances}
 use Rattle.digraph.proofs.Closure.{start-reached}
-use Rattle.digraph.proofs.Paths.{reached-near}
+use Rattle.digraph.proofs.Reaching.{reached-reach, reached-distances}
 use Rattle.hall.specs.Hall.{Hall, row, count}
 use Rattle.columns.specs.Columns.{flagged, Columns}
 use Rattle.columns.proofs.Places.{place-tail, place-head}
@@ -23,7 +22,7 @@ use Rattle.repair.proofs.Steps.{reached-lt, reached-closed, stepped-rai
 use Rattle.repair.proofs.repair_step.Statement.{statement}
 use Rattle.repair.proofs.repair_step.Tie as tie
 
--- the places of the code: the row's ends, the graph, what is reached, the distances and the flip, from the ones after them
+-- the places of the code: the row's ends, the graph, what is reached and the flip, from the ones after them
 abbrev at-tail : tie.After-number2 → tie.After-number
 at-tail c = c .before .before
 
@@ -31,18 +30,15 @@ abbrev at-start : tie.After-number2 → tie.Start
 at-start c = at-tail c .before .before
 
 abbrev at-graph : tie.After-reach → tie.After-zero-graph
-at-graph c = c .before .before
+at-graph c = c .before .before .before
 
 abbrev at-ends : tie.After-reach → tie.After-number2
 at-ends c = at-graph c .before
 
-abbrev at-reach : tie.After-distances → tie.After-reach
-at-reach c = c .before .before .before .before
+abbrev at-reach : tie.After-flip → tie.After-reach
+at-reach c = c .before .before .before .before .before
 
-abbrev at-distances : tie.After-distances2 → tie.After-distances
-at-distances c = c .before .before
-
-abbrev at-flip : tie.After-t36 → tie.After-flip
+abbrev at-flip : tie.After-t33 → tie.After-flip
 at-flip c = c .before .before .before
 
 -- the ends are junctions
@@ -75,9 +71,15 @@ module _ (c : tie.After-number2) where
     tail-is : tail ≡ row h (suc (start .args .row)) .from
     tail-is = let a = start .args in at-tail c .number .ensures ∙ place-tail h (a .n) (a .m) (a .tails .now) (a .heads .now) cols (a .row) (start .pre .3)
 
--- the set is what the head reaches
+-- the set is what the head reaches, and the list has the distances from there
 head-reach : (c : tie.After-reach) → Reach 64 (at (at-graph c .zero-graph .result)) (2 ^ (head (at-ends c) - 1)) (c .reach .result)
-head-reach c = rw (one-shl (head (at-ends c) - 1) (omega (arith, head-high (at-ends c)))) at (c .reach .ensures)
+head-reach c = let ends = at-ends c in
+    reached-reach 64 (at (at-graph c .zero-graph .result)) (head ends) (c .reach .result) (replicate 64 64) (c .reach .last .1 .1 .0) (head-low ends) (head-high ends) (c .reach .ensures) (omega (arith, c .reach .ok))
+
+head-distances : (c : tie.After-reach) → Distances 64 (at (at-graph c .zero-graph .result)) (head (at-ends c)) (at (c .reach .last .1 .1 .0))
+head-distances c = let ends = at-ends c in
+    reached-distances 64 (at (at-graph c .zero-graph .result)) (head ends) (c .reach .result) (replicate 64 64) (c .reach .last .1 .1 .0) (head-low ends) (head-high ends) (c .reach .ensures)
+    (λ y l u. getD-replicate 64 (y - 1) 64 0 (omega arith))
 
 element-copy-out-number : tie.Need-element-copy-out-number
 element-copy-out-number c = search needs
@@ -94,14 +96,8 @@ number-requires-2 c κs = search needs
 zero-graph-requires : tie.Need-zero-graph-requires
 zero-graph-requires c κs = search needs
 
-sub-reach : tie.Need-sub-reach
-sub-reach c = head-low (c .before .before)
-
-shl-reach : tie.Need-shl-reach
-shl-reach c = omega (arith, head-low (c .before .before), head-high (c .before .before))
-
 reach-requires : tie.Need-reach-requires
-reach-requires c κs = search needs
+reach-requires c κs = let ends = c .before .before .before in (head-low ends, head-high ends, refl)
 
 sub-has : tie.Need-sub-has
 sub-has c = tail-low (at-ends c)
@@ -109,23 +105,19 @@ sub-has c = tail-low (at-ends c)
 has-requires : tie.Need-has-requires
 has-requires c κs = omega (arith, tail-low (at-ends c), tail-high (at-ends c))
 
-distances-requires : tie.Need-distances-requires
-distances-requires c κs = let ends = at-ends (c .before .before .before) in (head-low ends, head-high ends)
-
 flip-requires : tie.Need-flip-requires
 flip-requires c κs =
-    let d = at-distances c .distances in let test = at-distances c .before .before in let z = at-reach (at-distances c) in let g = at-graph z .zero-graph in
+    let test = c .before .before in let z = test .before .before in let g = at-graph z .zero-graph in
     let ends = at-ends z in let s = at-start ends in let a = s .args in let to = tail ends in
     let here : suc (to - 1) ≡ to = omega (arith, tail-low ends) in
     let there : holds (z .reach .result) to ≡ true = rw here at (sym (test .before .has .ensures) ∙ test .if1 .taken) in (
       ends-wide (a .n) (a .m) (a .tails .now) (a .heads .now) (s .pre .0),
       s .pre .1,
       s .pre .2,
-      d .ensures,
+      head-distances z,
       tail-low ends,
       tail-high ends,
-      reached-near 64 (at (g .result)) (head ends) (at (d .result)) (d .ensures) (head-low ends) (head-high ends)
-          (λ j l u. elem-fits w64 w64 (g .result) (g .ok .0) (j - 1) (g .ok .1 .1) tt .fits) (z .reach .result) (head-reach z) to (tail-low ends) there,
+      z .reach .ensures .few to (tail-low ends) (tail-high ends) there,
       omega (arith, s .pre .0 .few, s .pre .3),
       s .pre .4,
     )
@@ -135,7 +127,7 @@ neighbourhoods-requires c κs = search needs
 
 returns : tie.Need-returns
 returns c =
-    let sets = c .before .neighbourhoods in let made = at-flip c .flip in let d = at-distances (at-flip c .before) in let z = at-reach d in let g = at-graph z .zero-graph in
+    let sets = c .before .neighbourhoods in let made = at-flip c .flip in let z = at-reach (at-flip c) in let g = at-graph z .zero-graph in
     let ends = at-ends z in let s = at-start ends in let a = s .args in
     let m = flagged (a .movable .now) in let cost = at (a .costs .now) in let p = at (a .potential .now) in let F = flagged (a .chosen .now) in (
       made .ok .1 .0 .1,
@@ -148,8 +140,8 @@ returns c =
           let turns =
           subst (λ (y : ℕ). Turns h m cost p F y (turning false i (head ends)) (head ends)) (sym (tail-is ends h cols))
           (subst (λ (x : ℕ). Turns h m cost p F (row h i .from) (turning false i x) x) (sym (head-is ends h cols)) (short-turns h m cost p F rg free start i (omega arith) u gap)) in
-          let flipped = walked-flip h (a .movable .now) (a .chosen .now) (a .costs .now) (a .potential .now) (g .result) (head ends) (tail ends) (at (d .distances .result)) i false (made .result)
-          (omega (arith, cols .junctions, s .pre .0 .size)) graph (d .distances .ensures) (head-low ends) (omega (arith, head-is ends h cols, rg .to-high i (omega arith) u)) (start .joining) (start .parted) (omega arith)
+          let flipped = walked-flip h (a .movable .now) (a .chosen .now) (a .costs .now) (a .potential .now) (g .result) (head ends) (tail ends) (at (z .reach .last .1 .1 .0)) i false (made .result)
+          (omega (arith, cols .junctions, s .pre .0 .size)) graph (head-distances z) (head-low ends) (omega (arith, head-is ends h cols, rg .to-high i (omega arith) u)) (start .joining) (start .parted) (omega arith)
           turns walked in
           stepped-flip h m cost p F rg free start i (omega arith) u gap (flagged (made .result)) (sets .result) (flipped .1) (flipped .0) (sets .ensures h cols rg (flipped .0 .joining)),
     )
@@ -190,12 +182,9 @@ repair-step-spec =
     element-copy-out-number-2
     number-requires-2
     zero-graph-requires
-    sub-reach
-    shl-reach
     reach-requires
     sub-has
     has-requires
-    distances-requires
     flip-requires
     neighbourhoods-requires
     returns
