@@ -1,10 +1,11 @@
--- A test that everything in a list passes gives a property of each, lists that pass the test of sameness are equal, and a list of one value has it everywhere. Assumes nothing.
-use mathlib.Core.Path.{_≡_, refl}
+-- A test that everything in a list passes gives a property of each, lists that pass the test of sameness are equal, a list of one value has it everywhere, and a list filled from the front is filled place by place. Assumes nothing.
+use mathlib.Core.Path.{_≡_, refl, ap}
 use mathlib.Core.Bool.{Bool, true}
-use mathlib.Core.List.{List, [], _∷_}
-use Prim.Native.Nat.{ℕ, zero, suc}
-use lib.ListN.{getD, replicate}
-use Rattle.laws.specs.Lists.{all-in, all-of, Each, same-list}
+use mathlib.Core.List.{List, [], _∷_, _++_}
+use Prim.Native.Nat.{ℕ, zero, suc, _<_}
+use native.Mathlib.Omega.{arith}
+use lib.ListN.{length, getD, set, replicate}
+use Rattle.laws.specs.Lists.{all-in, all-of, Each, same-list, in-front}
 use Rattle.laws.proofs.Booleans.{clash, and-l, and-r}
 
 pub each-in : {A : Type 0} (p : A → Bool) (P : A → Type 0) → ((x : A) → p x ≡ true → P x) → (xs : List A) → all-in p xs ≡ true → Each P xs
@@ -34,3 +35,11 @@ pub replicate-at : {A : Type 0} (n i : ℕ) (d : A) → getD (replicate n d) i d
 replicate-at zero i d = refl
 replicate-at (suc n) zero d = refl
 replicate-at (suc n) (suc i) d = replicate-at n i d
+
+-- the next place filled too
+pub front-more : {A : Type 0} (new old : List A) (v : A) → length new < length old → set (in-front new old) (length new) v ≡ in-front (new ++ (v ∷ [])) old
+unfolding in-front
+front-more [] [] v l = absurd (omega (arith, l))
+front-more [] (y ∷ old) v l = refl
+front-more (x ∷ new) [] v l = absurd (omega (arith, l))
+front-more {A} (x ∷ new) (y ∷ old) v l = ap (λ (r : List A). x ∷ r) (front-more new old v (omega (arith, l)))

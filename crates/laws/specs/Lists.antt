@@ -1,8 +1,8 @@
--- Tests and properties over all of a list, the test that two lists are the same, and places of a column. Assumes nothing: these are definitions.
+-- Tests and properties over all of a list, the test that two lists are the same, places of a column, and lists filled from the front. Assumes nothing: these are definitions.
 use mathlib.Core.Bool.{Bool, true, false, _&&_}
-use mathlib.Core.List.{List, [], _∷_}
+use mathlib.Core.List.{List, [], _∷_, _++_}
 use Prim.Native.Nat.{ℕ, _-_}
-use lib.ListN.{getD}
+use lib.ListN.{length, getD, drop}
 
 -- everything in the list passes
 unfoldable pub all-in : {A : Type 0} → (A → Bool) → List A → Bool
@@ -28,3 +28,7 @@ same-list same (x ∷ xs) (y ∷ ys) = same x y && same-list same xs ys
 -- the number at place i of a column, counted from 1
 abbrev pub at : List ℕ → (i : ℕ) → ℕ
 at xs i = getD xs (i - 1) 0
+
+-- a list's first places filled, the others as they were
+unfoldable pub in-front : {A : Type 0} → (new old : List A) → List A
+in-front new old = new ++ drop (length new) old

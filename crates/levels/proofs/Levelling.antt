@@ -6,19 +6,19 @@ use Prim.Native.Nat.{ℕ, zero, suc, _+_, _-_, _^_, _≤_, _<_}
 use native.Mathlib.Numerals.{add-one}
 use native.Mathlib.Omega.{arith}
 use lib.Dec.{leb}
-use lib.IntN.{ℤ, pos, negsuc, _-ℤ_, +ℤ-idl}
+use lib.IntN.{ℤ, pos, negsuc, _-ℤ_}
 use lib.ListN.{getD, length, set, length-set, take}
 use lib.Seq.{getD-set-same, getD-set-other, getD-take, length-take-le, ext-getD}
 use mir.Syntax.{w32}
 use mir.Val.{SFits, toZ, ofZ}
-use mir.ValLaws.{toZ-pos, toZ-ofZ}
+use mir.ValLaws.{toZ-pos}
 use borrow.Author.Count.{below-more}
 use borrow.Author.Tests.{le-leb, lt-leb}
 use Rattle.laws.specs.Finite.{sum-below}
 use Rattle.laws.proofs.Booleans.{cond-true, cond-false}
 use Rattle.laws.proofs.Counts.{sum-head}
 use Rattle.laws.proofs.Finite.{sum-ext}
-use Rattle.laws.proofs.Signs.{negative-fits, below-zero-fits}
+use Rattle.laws.proofs.Signs.{below-zero-fits, below-zero-is}
 use Rattle.junctions.specs.Sets.{holds}
 use Rattle.hall.specs.Hall.{Hall}
 use Rattle.hall.specs.Plan.{Cut, cut, level-sum, difference, levels-from, levels}
@@ -58,14 +58,11 @@ difference-neg a b l = cond-false (leb b a) (pos (a - b)) (negsuc (b - a - 1)) (
 pub less-pos : (a b : ℕ) → b ≤ a → a < b + 2 ^ 31 → toZ w32 (a - b) ≡ difference a b
 less-pos a b l h = toZ-pos w32 (a - b) (omega arith) ∙ sym (difference-pos a b l)
 
-debt-is : (a b : ℕ) → a < b → pos 0 -ℤ pos (b - a) ≡ difference a b
-debt-is a b l = let e : b - a ≡ suc (b - a - 1) = omega arith in ap (λ (d : ℕ). pos 0 -ℤ pos d) e ∙ +ℤ-idl (negsuc (b - a - 1)) ∙ sym (difference-neg a b l)
-
 pub less-fits : (a b : ℕ) → a < b → b < a + 2 ^ 31 → SFits w32 (pos 0 -ℤ toZ w32 (b - a))
 less-fits a b l h = below-zero-fits (b - a) (omega arith)
 
 pub less-neg : (a b : ℕ) → a < b → b < a + 2 ^ 31 → toZ w32 (ofZ w32 (pos 0 -ℤ toZ w32 (b - a))) ≡ difference a b
-less-neg a b l h = rw (toZ-pos w32 (b - a) (omega arith)) (toZ-ofZ w32 (pos 0 -ℤ pos (b - a)) (negative-fits (b - a) (omega arith)) ∙ debt-is a b l)
+less-neg a b l h = below-zero-is (b - a) (omega arith) (omega arith) ∙ sym (difference-neg a b l)
 
 -- levels place by place
 pub levelled-none : (ks : List Cut) (before : List ℤ) → Levelled ks 0 before before
