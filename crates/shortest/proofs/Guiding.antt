@@ -10,14 +10,14 @@ use lib.Dec.{eqb}
 use borrow.Author.Tests.{eq-eqb, eqb-true, ne-eqb}
 use Rattle.laws.specs.Lists.{at}
 use Rattle.laws.proofs.Booleans.{by-bool, clash, and-i, and-l, and-r, or-cases, or-l, or-r}
-use Rattle.hall.specs.Hall.{Hall, row, count, member}
+use Rattle.hall.specs.Hall.{Hall, row, member}
 use Rattle.dicuts.specs.Shores.{Ranged}
-use Rattle.routes.specs.Route.{Step, ends}
+use Rattle.routes.specs.Route.{Step}
 use Rattle.routes.specs.Reached.{Fewest-to}
 use Rattle.routes.specs.Nearer.{Nearer, Lowest}
 use Rattle.routes.proofs.Steps.{starts-ahead, starts-back, ends-ahead, ends-back, may-intro, may-low, may-high, may-back}
 use Rattle.routes.proofs.Shortest.{some-nearer}
-use Rattle.columns.specs.Columns.{flagged, Ends, Columns}
+use Rattle.columns.specs.Columns.{flagged, Columns}
 use Rattle.shortest.specs.Steps.{leads-nearer, nearer-row, Lowest-over, Rows-over, step-at, Guided}
 
 -- the test of one direction, from its parts and into them
@@ -39,6 +39,13 @@ direction h c D x s near =
     by-bool (s .back)
     (λ b. b ∙ ap not (sym (ne-eqb from x (λ e. omega (arith, near .closer, ap D (ends-back h s b ∙ e))))))
     (λ b. b ∙ ap not (sym (eq-eqb from x (sym (starts-ahead h s b) ∙ near .here))))
+
+nearer-is : (h : Hall) (c : List ℕ) (D : ℕ → ℕ) (x : ℕ) (first : List ℕ) (s : Step) → Nearer h c D x s → s .number ≡ at first x → Nearer h c D x (step-at h first x)
+unfolding step-at
+nearer-is h c D x first s near e =
+    let is : s ≡ step-at h first x =
+    ap₂ (λ (i : ℕ) (d : Bool). record { number = i; back = d }) e (direction h c D x s near ∙ ap (λ (i : ℕ). not (eqb (row h i .from) x)) e) in
+    subst (Nearer h c D x) is near
 
 module _ (h : Hall) (n m : ℕ) (ts hs : List ℕ) (fs : List Bool) (c : List ℕ) (cols : Columns h n m ts hs) (same : (i : ℕ) → 1 ≤ i → i ≤ m → flagged fs i ≡ member i c) (D : ℕ → ℕ) where
   step-row : (x : ℕ) (s : Step) → Nearer h c D x s → nearer-row ts hs fs D x (s .number) ≡ true
@@ -66,20 +73,26 @@ module _ (h : Hall) (n m : ℕ) (ts hs : List ℕ) (fs : List Bool) (c : List �
       ⊎-elim
       (λ (y : ahead ≡ true).
       let s : Step = record { number = i; back = false } in
-      let p = leads-parts D (at ts i) (at hs i) x y in
-      (s, refl, record {
-        runs = may-intro h c s low (omega (arith, cols .rows)) (λ b. clash b refl);
-        here = starts-ahead h s refl ∙ sym (cols .tail i low high) ∙ p .0;
-        closer = omega (arith, p .1, ap D (ends-ahead h s refl ∙ sym (cols .head i low high)));
-      }))
+      let p = leads-parts D (at ts i) (at hs i) x y in (
+        s,
+        refl,
+        record {
+          runs = may-intro h c s low (omega (arith, cols .rows)) (λ b. clash b refl);
+          here = starts-ahead h s refl ∙ sym (cols .tail i low high) ∙ p .0;
+          closer = omega (arith, p .1, ap D (ends-ahead h s refl ∙ sym (cols .head i low high)));
+        },
+      ))
       (λ (y : (flagged fs i && back) ≡ true).
       let s : Step = record { number = i; back = true } in
-      let p = leads-parts D (at hs i) (at ts i) x (and-r (flagged fs i) back y) in
-      (s, refl, record {
-        runs = may-intro h c s low (omega (arith, cols .rows)) (λ b. sym (same i low high) ∙ and-l (flagged fs i) back y);
-        here = starts-back h s refl ∙ sym (cols .head i low high) ∙ p .0;
-        closer = omega (arith, p .1, ap D (ends-back h s refl ∙ sym (cols .tail i low high)));
-      }))
+      let p = leads-parts D (at hs i) (at ts i) x (and-r (flagged fs i) back y) in (
+        s,
+        refl,
+        record {
+          runs = may-intro h c s low (omega (arith, cols .rows)) (λ b. sym (same i low high) ∙ and-l (flagged fs i) back y);
+          here = starts-back h s refl ∙ sym (cols .head i low high) ∙ p .0;
+          closer = omega (arith, p .1, ap D (ends-back h s refl ∙ sym (cols .tail i low high)));
+        },
+      ))
       (or-cases ahead (flagged fs i && back) t)
 
   module _ (small : n ≤ 64) (rg : Ranged h) (b : ℕ) (D-is : (x : ℕ) → 1 ≤ x → x ≤ h .n → Fewest-to h c x b (some (D x)))
@@ -87,17 +100,12 @@ module _ (h : Hall) (n m : ℕ) (ts hs : List ℕ) (fs : List Bool) (c : List �
     first-lowest : (x : ℕ) → 1 ≤ x → x ≤ h .n → (x ≡ b → ⊥) → Lowest h c D x (step-at h first x)
     unfolding step-at Lowest-over
     first-lowest x low high ne =
-        let some-step = some-nearer h rg c b D D-is x low high ne in
+        let near = some-nearer h rg c b D D-is x low high ne in
         let over : (t : Step) → Nearer h c D x t → (0 < at first x) × (at first x ≤ t .number) × (nearer-row ts hs fs D x (at first x) ≡ true) =
-        (λ t near. rows .lowest x low (omega (arith, cols .junctions)) (t .number) (may-low h c t (near .runs)) (omega (arith, may-high h c t (near .runs), cols .rows)) (step-row x t near)) in
-        let found = over (some-step .0) (some-step .1) in
-        let top : at first x ≤ m = omega (arith, found .1, may-high h c (some-step .0) (some-step .1 .runs), cols .rows) in
-        let taken = row-step x (at first x) (found .0) top (found .2) in
-        let s = taken .0 in
-        let is : s ≡ step-at h first x =
-        ap₂ (λ (i : ℕ) (d : Bool). record { number = i; back = d }) (taken .1)
-        (direction h c D x s (taken .2) ∙ ap (λ (i : ℕ). not (eqb (row h i .from) x)) (taken .1)) in
-        record { nearer = subst (Nearer h c D x) is (taken .2); least = λ t near. over t near .1 }
+        (λ t n. rows .lowest x low (omega (arith, cols .junctions)) (t .number) (may-low h c t (n .runs)) (omega (arith, may-high h c t (n .runs), cols .rows)) (step-row x t n)) in
+        let found = over (near .0) (near .1) in
+        let s = row-step x (at first x) (found .0) (omega (arith, found .1, may-high h c (near .0) (near .1 .runs), cols .rows)) (found .2) in
+        record { nearer = nearer-is h c D x first (s .0) (s .2) (s .1); least = λ t n. over t n .1 }
 
     pub guided : m ≤ 256 → Guided h c b D ts hs first
     guided few = record {

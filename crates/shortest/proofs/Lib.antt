@@ -1,3 +1,4 @@
+pub mod Searching
 pub mod Noting
 pub mod Guiding
 pub mod Following

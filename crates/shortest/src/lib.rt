@@ -2,12 +2,14 @@
 ghost use mathlib.Core.Path.{_≡_};
 ghost use mathlib.Core.Bool.{true, cond};
 ghost use mathlib.Core.List.{List};
-ghost use Prim.Native.Nat.{ℕ, _≤_};
+ghost use mathlib.Core.Option.{some};
+ghost use Prim.Native.Nat.{ℕ, _≤_, _<_};
 ghost use lib.ListN.{length};
 ghost use Rattle.laws.specs.Lists.{at, in-front};
 ghost use Rattle.hall.specs.Hall.{Hall, member, joins};
 ghost use Rattle.dicuts.specs.Shores.{Ranged};
 ghost use Rattle.routes.specs.Route.{Step, signed, all-signed, Shortest-route};
+ghost use Rattle.routes.specs.Reached.{Fewest-to};
 ghost use Rattle.columns.specs.Columns.{Ends, Columns, flagged};
 ghost use Rattle.shortest.specs.Steps.{Noted, Rows-over, Guided};
 
@@ -95,6 +97,26 @@ fn follow<'a>(
     }
 }
 
+// The fewest rows from each junction to the target: the reach step from there over the rows turned round.
+fn distances_to<'a>(
+    n: usize,
+    m: usize,
+    tails: &'a [u8; 256],
+    heads: &'a [u8; 256],
+    chosen: &'a [bool; 256],
+    to: usize,
+) -> [u8; 64]
+    requires { ⌜ Ends n m (now tails) (now heads) × (1 ≤ to) × (to ≤ n) ⌝ }
+    ensures { λ r. ⌜ ((h : Hall) (c : List ℕ) → Columns h n m (now (tails .entry)) (now (heads .entry)) → Ranged h
+        → ((i : ℕ) → 1 ≤ i → i ≤ m → flagged (now (chosen .entry)) i ≡ member i c) → joins h c ≡ true
+        → (x : ℕ) → 1 ≤ x → x ≤ h .n → Fewest-to h c x to (some (at r x)) × (at r x < 64)) ⌝ }
+{
+    let back = adjacency::of_rows(n, m, heads, tails, chosen);
+    let mut distances = [0u8; 64];
+    digraph::reach(&back, to, &mut distances);
+    distances
+}
+
 // The route from a junction to another, into the first places of the list; how many rows it has.
 pub fn route<'a>(
     n: usize,
@@ -113,9 +135,7 @@ pub fn route<'a>(
         → ((i : ℕ) → 1 ≤ i → i ≤ m → flagged (now (chosen .entry)) i ≡ member i c) → joins h c ≡ true
         → (ss : List Step) × Shortest-route h c from to ss × (r ≡ length ss) × (now (rows .exit) ≡ in-front (all-signed ss) (now (rows .entry)))) ⌝ }
 {
-    let back = adjacency::of_rows(n, m, heads, tails, chosen);
-    let mut distances = [64u8; 64];
-    let reached = digraph::reach(&back, to, &mut distances);
+    let distances = distances_to(n, m, tails, heads, chosen, to);
     let mut first = [0usize; 64];
     first_rows(m, tails, heads, chosen, &distances, &mut first);
     let distance = digraph::distance(&distances, from) as usize;
