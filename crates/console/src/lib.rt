@@ -32,6 +32,7 @@ fn ended(numbers: Numbers) -> Numbers
     next
 }
 
+// A digit that would make its number more than 4,294,967,295 is left out.
 fn with_byte(numbers: Numbers, byte: u8) -> Numbers
     requires { ⌜ numbers .count ≤ 257 ⌝ }
     ensures { λ r. ⌜ r .count ≤ 257 ⌝ }
@@ -43,8 +44,9 @@ fn with_byte(numbers: Numbers, byte: u8) -> Numbers
         return ended(numbers);
     }
     let mut next = numbers;
-    if next.value < 100_000_000 {
-        next.value = 10 * next.value + ((byte - b'0') as u32);
+    let longer = 10 * (next.value as u64) + ((byte - b'0') as u64);
+    if longer <= 4_294_967_295 {
+        next.value = longer as u32;
     }
     next.started = true;
     next
@@ -68,13 +70,18 @@ pub fn numbers_in(text: &[u8]) -> Numbers
     ended(numbers)
 }
 
+// A word and the number after it.
+pub fn print_item(word: &[u8], number: u64) {
+    io::write_all(STDOUT_FILENO, word);
+    io::print_decimal(STDOUT_FILENO, number);
+}
+
 fn print_set(word: &[u8], set: Junctions) {
     io::write_all(STDOUT_FILENO, word);
     let mut j: usize = 1;
     while j <= 64 {
         if set.holds(j) {
-            io::write_all(STDOUT_FILENO, b" ");
-            io::print_decimal(STDOUT_FILENO, j as u64);
+            print_item(b" ", j as u64);
         }
         j += 1;
     }
@@ -82,10 +89,8 @@ fn print_set(word: &[u8], set: Junctions) {
 }
 
 fn print_refusal(number: u32, row: u32) {
-    io::write_all(STDOUT_FILENO, b"REFUSED ");
-    io::print_decimal(STDOUT_FILENO, number as u64);
-    io::write_all(STDOUT_FILENO, b" ");
-    io::print_decimal(STDOUT_FILENO, row as u64);
+    print_item(b"REFUSED ", number as u64);
+    print_item(b" ", row as u64);
     io::write_all(STDOUT_FILENO, b"\n");
 }
 
@@ -109,4 +114,22 @@ pub fn print_told(told: Told) {
         return;
     }
     print_refusal(refusals::number_of(refusal), refusals::row_of(refusal));
+}
+
+// A number with a space before it, and a minus where it is below 0.
+fn print_signed(number: i32) {
+    let mut text = [0u8; 12];
+    let end = lines::put_level(&mut text, 0, number);
+    io::write_all(STDOUT_FILENO, &text[..end]);
+}
+
+// The line of a route: the first numbers of a list, as many as said and as it has.
+pub fn print_route(rows: &[i32], count: usize) {
+    io::write_all(STDOUT_FILENO, b"route");
+    let mut k: usize = 0;
+    while k < count && k < rows.len() {
+        print_signed(rows[k]);
+        k += 1;
+    }
+    io::write_all(STDOUT_FILENO, b"\n");
 }

@@ -19,14 +19,11 @@ loop-holds c = search needs
 holds-requires : tie.Need-holds-requires Inv-loop μ-loop
 holds-requires c κs = search needs
 
-slice-aggregate-write-all : tie.Need-slice-aggregate-write-all Inv-loop μ-loop
-slice-aggregate-write-all c = search needs
+slice-aggregate-print-item : tie.Need-slice-aggregate-print-item Inv-loop μ-loop
+slice-aggregate-print-item c = search needs
 
-write-all-requires-2 : tie.Need-write-all-requires-2 Inv-loop μ-loop
-write-all-requires-2 c κs = search needs
-
-print-decimal-requires : tie.Need-print-decimal-requires Inv-loop μ-loop
-print-decimal-requires c κs = search needs
+print-item-requires : tie.Need-print-item-requires Inv-loop μ-loop
+print-item-requires c κs = search needs
 
 add-j : tie.Need-add-j Inv-loop μ-loop
 add-j c = search needs
@@ -37,11 +34,11 @@ loop-less c = search needs
 loop-again : tie.Need-loop-again Inv-loop μ-loop
 loop-again c = search needs
 
-slice-aggregate-write-all-2 : tie.Need-slice-aggregate-write-all-2 Inv-loop μ-loop
-slice-aggregate-write-all-2 c = search needs
+slice-aggregate-write-all : tie.Need-slice-aggregate-write-all Inv-loop μ-loop
+slice-aggregate-write-all c = search needs
 
-write-all-requires-3 : tie.Need-write-all-requires-3 Inv-loop μ-loop
-write-all-requires-3 c κs = search needs
+write-all-requires-2 : tie.Need-write-all-requires-2 Inv-loop μ-loop
+write-all-requires-2 c κs = search needs
 
 returns : tie.Need-returns Inv-loop μ-loop
 returns c = search needs
@@ -55,12 +52,11 @@ print-set-spec =
     write-all-requires
     loop-holds
     holds-requires
-    slice-aggregate-write-all
-    write-all-requires-2
-    print-decimal-requires
+    slice-aggregate-print-item
+    print-item-requires
     add-j
     loop-less
     loop-again
-    slice-aggregate-write-all-2
-    write-all-requires-3
+    slice-aggregate-write-all
+    write-all-requires-2
     returns)
