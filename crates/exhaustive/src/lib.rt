@@ -1,4 +1,4 @@
-// Whether a choice is the first of a small hall that joins, by trying every choice against every directed cut.
+// Which choices of a small hall join, and whether one is the first that does, by trying every choice against every directed cut.
 pub mod sets;
 
 ghost use Prim.Native.Nat.{_+_, _≤_, _<_};
@@ -70,6 +70,40 @@ pub fn unfixed_join(hall: Small) -> bool
 {
     let cuts = cuts_of(hall);
     joins(&cuts.rows, cuts.count, sets::unfixed(hall))
+}
+
+// What lies in every directed cut that holds a junction and that no row of the choice enters: what the junction reaches.
+fn reached(hall: Small, choice: u64, junction: u8) -> u64
+    requires { ⌜ (hall .n ≤ 6) × (hall .count ≤ 10) ⌝ }
+{
+    let whole = sets::whole(hall.n);
+    let mut reached = whole;
+    let mut set: u64 = 1;
+    while set < whole {
+        let cut = sets::cut_of(hall, set);
+        if sets::has(set, junction) & cut.directed & (cut.rows & choice == 0) {
+            reached = reached & set;
+        }
+        set += 1;
+    }
+    reached
+}
+
+// The shore that a choice misses: what the lowest junction that does not reach all reaches; 0 where it misses none.
+pub fn missed(hall: Small, choice: u64) -> u64
+    requires { ⌜ (hall .n ≤ 6) × (hall .count ≤ 10) ⌝ }
+{
+    let n = hall.n;
+    let whole = sets::whole(n);
+    let mut j: usize = 1;
+    while j <= n {
+        let reached = reached(hall, choice, j as u8);
+        if reached != whole {
+            return reached;
+        }
+        j += 1;
+    }
+    0
 }
 
 // Whether a set of rows has no fixed row, so that it is a choice, and joins.

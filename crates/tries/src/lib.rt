@@ -1,15 +1,15 @@
-// The planner tried: a plan into lists that have a mark in every place, and whether two such lists agree.
+// Lists that have a mark in every place: a plan into them, whether two such lists agree, and whether the marks still stand.
 ghost use mathlib.Core.Path.{_≡_};
 ghost use Prim.Native.Nat.{_≤_};
 ghost use lib.ListN.{length};
 use planning::Planned;
 
-// Marks that no plan writes.
+// Marks that no plan writes, and no route.
 pub const NUMBER: u32 = 4_000_000_007;
 
 pub const SHORE: u64 = 9_000_000_000_000_000_011;
 
-const LEVEL: i32 = 2_000_000_011;
+const SIGNED: i32 = 2_000_000_011;
 
 pub struct Lists {
     pub rows: [u32; 256],
@@ -24,15 +24,23 @@ pub struct Tried {
     pub lists: Lists,
 }
 
+// A list of signed numbers with a mark in every place.
+pub fn signed_marks() -> [i32; 64]
+    ensures { λ r. ⌜ length r ≡ 64 ⌝ }
+{
+    [SIGNED; 64]
+}
+
 // The lists with a mark in every place.
 pub fn marked() -> Lists
     ensures { λ r. ⌜ (length (r .rows) ≡ 256) × (length (r .shores) ≡ 126) × (length (r .weights) ≡ 126) × (length (r .levels) ≡ 64) ⌝ }
 {
+    let levels = signed_marks();
     Lists {
         rows: [NUMBER; 256],
         shores: [SHORE; 126],
         weights: [NUMBER; 126],
-        levels: [LEVEL; 64],
+        levels,
     }
 }
 
@@ -86,7 +94,7 @@ fn same_shores<'a>(a: &'a [u64; 126], b: &'a [u64; 126], from: usize) -> bool {
     true
 }
 
-fn same_levels<'a>(a: &'a [i32; 64], b: &'a [i32; 64], from: usize) -> bool {
+fn same_signed<'a>(a: &'a [i32; 64], b: &'a [i32; 64], from: usize) -> bool {
     let mut i = from;
     while i < 64 {
         if a[i] != b[i] {
@@ -97,10 +105,16 @@ fn same_levels<'a>(a: &'a [i32; 64], b: &'a [i32; 64], from: usize) -> bool {
     true
 }
 
+// Whether only marks stand in a list of signed numbers after so many.
+pub fn signed_kept_after(list: &[i32; 64], filled: usize) -> bool {
+    let marks = signed_marks();
+    same_signed(list, &marks, filled)
+}
+
 // Whether two plans' lists agree after so many rows, cuts and levels.
 pub fn same_after(a: Lists, b: Lists, rows: usize, cuts: usize, levels: usize) -> bool {
     let numbers = same_numbers(&a.rows, &b.rows, rows) & same_numbers(&a.weights, &b.weights, cuts);
-    numbers & same_shores(&a.shores, &b.shores, cuts) & same_levels(&a.levels, &b.levels, levels)
+    numbers & same_shores(&a.shores, &b.shores, cuts) & same_signed(&a.levels, &b.levels, levels)
 }
 
 // Whether only marks stand after so many rows, cuts and levels.

@@ -37,16 +37,11 @@ fn counted(tally: Tally, hall: Small) -> Tally
     next
 }
 
-fn print_item(word: &[u8], number: u64) {
-    io::write_all(STDOUT_FILENO, word);
-    io::print_decimal(STDOUT_FILENO, number);
-}
-
 fn print_tally(tally: Tally) {
-    print_item(b" SAME ", tally.same);
-    print_item(b" UNJOINED ", tally.unjoined);
-    print_item(b" FIXED ", tally.fixed);
-    print_item(b" DIFFERENT ", tally.different);
+    console::print_item(b" SAME ", tally.same);
+    console::print_item(b" UNJOINED ", tally.unjoined);
+    console::print_item(b" FIXED ", tally.fixed);
+    console::print_item(b" DIFFERENT ", tally.different);
     io::write_all(STDOUT_FILENO, b"\n");
 }
 
@@ -77,9 +72,9 @@ fn try_all(n: usize, rows: usize, prices: u64)
         tally = of_size(tally, n, count, prices);
         count += 1;
     }
-    print_item(b"EVERY JUNCTIONS ", n as u64);
-    print_item(b" ROWS 0 TO ", rows as u64);
-    print_item(b" PRICES 0 TO ", prices - 1);
+    console::print_item(b"EVERY JUNCTIONS ", n as u64);
+    console::print_item(b" ROWS 0 TO ", rows as u64);
+    console::print_item(b" PRICES 0 TO ", prices - 1);
     io::write_all(STDOUT_FILENO, b" OR FIXED");
     print_tally(tally);
 }
@@ -95,7 +90,7 @@ fn try_random(halls: u64, start: u64) {
         seed = drawn.seed;
         k += 1;
     }
-    print_item(b"RANDOM HALLS ", halls);
+    console::print_item(b"RANDOM HALLS ", halls);
     print_tally(tally);
 }
 

@@ -1,8 +1,8 @@
--- `tries::same_levels` ends and reads no place outside the lists. The invariant: i is at least the first place looked at. The measure is 64 - i. Assumes nothing.
+-- `tries::same_signed` ends and reads no place outside the lists. The invariant: i is at least the first place looked at. The measure is 64 - i. Assumes nothing.
 use Prim.Native.Nat.{_≤_, _-_}
 use borrow.Author.Needs.{needs}
-use Rattle.tries.proofs.same_levels.Statement.{statement}
-use Rattle.tries.proofs.same_levels.Tie as tie
+use Rattle.tries.proofs.same_signed.Statement.{statement}
+use Rattle.tries.proofs.same_signed.Tie as tie
 
 abbrev Inv-loop : tie.InvT-loop
 Inv-loop a b from i₀ i = from ≤ i
@@ -40,8 +40,8 @@ loop-again c = search needs
 returns-2 : tie.Need-returns-2 Inv-loop μ-loop
 returns-2 c = search needs
 
-pub same-levels-spec : {M : Type 1} → statement M
-same-levels-spec =
+pub same-signed-spec : {M : Type 1} → statement M
+same-signed-spec =
     tie.close
     (tie.spec
     Inv-loop
