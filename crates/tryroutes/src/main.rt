@@ -231,5 +231,5 @@ fn main() {
     try_all(2, 4);
     try_all(3, 3);
     try_all(4, 3);
-    try_random(1000, 1);
+    try_random(20_000, 1);
 }

@@ -1,4 +1,4 @@
--- `tryroutes::walks::first` ends and gives a sequence of at most 6 steps. The invariant: the length is at most n, that at most 6, and there are at most 32 sequences to the power of the length. The measure is n - length. Assumes nothing.
+-- `tryroutes::walks::first` ends and gives a sequence of at most 6 steps. The invariant: the length is at most n, that at most 6, there are at most 20 steps, and at most 32 to the power of the length sequences. The measure is n - length. Assumes nothing.
 use mathlib.Core.Path.{_≡_}
 use Prim.Native.Nat.{ℕ, _+_, _*_, _^_, _≤_, _-_}
 use native.Mathlib.Nat.{mul-le-mul-left}

@@ -1,8 +1,8 @@
 -- `tryroutes::walks::step_of` takes only rows that there is room for, and the negative of a number up to 10. Assumes nothing.
 use Prim.Native.Nat.{_+_, _/_}
 use native.Mathlib.Omega.{arith}
-use Rattle.laws.proofs.Signs.{below-zero-fits}
 use borrow.Author.Needs.{needs}
+use Rattle.laws.proofs.Signs.{below-zero-fits}
 use Rattle.tryroutes.proofs.walks.step_of.Statement.{statement}
 use Rattle.tryroutes.proofs.walks.step_of.Tie as tie
 
