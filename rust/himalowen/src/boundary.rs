@@ -20,6 +20,18 @@ mod exported {
             reply: &mut [u64; 4],
         ) -> u32;
 
+        pub fn himalowen_route(
+            file: *const u8,
+            file_length: usize,
+            choice: *const u32,
+            choice_length: usize,
+            from: u32,
+            to: u32,
+            rows: *mut i32,
+            rows_length: usize,
+            reply: &mut [u64; 5],
+        ) -> u32;
+
         pub fn himalowen_plan(
             file: *const u8,
             file_length: usize,
@@ -48,6 +60,24 @@ pub fn tight(file: &[u8], choice: &[u32], junction: u32) -> [u64; 4] {
     let mut reply = [0; 4];
     unsafe {
         exported::himalowen_tight(file.as_ptr(), file.len(), choice.as_ptr(), choice.len(), junction, &mut reply);
+    }
+    reply
+}
+
+pub fn route(file: &[u8], choice: &[u32], from: u32, to: u32, rows: &mut [i32]) -> [u64; 5] {
+    let mut reply = [0; 5];
+    unsafe {
+        exported::himalowen_route(
+            file.as_ptr(),
+            file.len(),
+            choice.as_ptr(),
+            choice.len(),
+            from,
+            to,
+            rows.as_mut_ptr(),
+            rows.len(),
+            &mut reply,
+        );
     }
     reply
 }

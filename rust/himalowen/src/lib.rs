@@ -9,8 +9,9 @@ mod boundary;
 pub const ROW_PLACES: usize = 256;
 pub const CUT_PLACES: usize = 125;
 pub const LEVEL_PLACES: usize = 64;
+pub const ROUTE_PLACES: usize = 63;
 
-/// Why a call was turned back: 1 to 10 without 7, or 15, and the row for 6 and 8, else 0.
+/// Why a call was turned back: 1 to 11 without 7, or 15, and the row for 6 and 8, else 0.
 #[derive(Clone, Copy, Debug, PartialEq, Eq)]
 pub struct Refusal {
     pub number: u32,
@@ -32,6 +33,15 @@ pub enum Finding {
     Misses(u64),
     /// A tight neighbourhood.
     Around(u64),
+}
+
+/// A route, or why there is none.
+#[derive(Clone, Copy, Debug, PartialEq, Eq)]
+pub enum Way<T> {
+    /// A shore that no chosen row enters.
+    Misses(u64),
+    /// The route's rows in travelling order, or how many they are.
+    Route(T),
 }
 
 /// How many places of each lent list are filled, and the plan's total.
@@ -66,6 +76,28 @@ pub fn check(file: &[u8], choice: &[u32]) -> Result<Finding, Refusal> {
 /// The junctions that lie in every tight shore with `junction`; the check's reply where the choice does not join.
 pub fn tight(file: &[u8], choice: &[u32], junction: u32) -> Result<Finding, Refusal> {
     finding(boundary::tight(file, choice, junction))
+}
+
+/// The route with the fewest rows, over rows forward and chosen rows backward, in the front of the lent list: each row as
+/// its number, below 0 where it is run backward. Of several, the one whose row numbers come first in dictionary order. The
+/// check's reply where the choice does not join.
+pub fn route_into(file: &[u8], choice: &[u32], from: u32, to: u32, rows: &mut [i32]) -> Result<Way<usize>, Refusal> {
+    let [number, row, outcome, set, filled] = boundary::route(file, choice, from, to, rows);
+    accepted(number, row)?;
+    Ok(match outcome {
+        2 => Way::Misses(set),
+        4 => Way::Route(filled as usize),
+        _ => unreachable!("the library promises an outcome of 2 or 4"),
+    })
+}
+
+/// The same route in a list of its own.
+pub fn route(file: &[u8], choice: &[u32], from: u32, to: u32) -> Result<Way<Vec<i32>>, Refusal> {
+    let mut rows = [0; ROUTE_PLACES];
+    Ok(match route_into(file, choice, from, to, &mut rows)? {
+        Way::Misses(shore) => Way::Misses(shore),
+        Way::Route(filled) => Way::Route(rows[..filled].to_vec()),
+    })
 }
 
 /// The first joining choice, its cuts and levels, in the front of the lent lists.

@@ -6,6 +6,7 @@ mod certificate;
 mod first;
 mod hall;
 mod list;
+mod route;
 mod small;
 
 pub use certificate::{faults, Claim};
@@ -13,6 +14,7 @@ pub use first::unshown;
 pub use hall::{hall_in, unfixed, Hall};
 pub use list::{judge, printed, words, Listed};
 pub use reader::{Refusal, Row};
+pub use route::{first_routes, route, route_by_trying, Routed};
 pub use small::{first_choice, has_fixed_cut, neighbourhood_by_shores, SMALL};
 
 use std::collections::BTreeMap;

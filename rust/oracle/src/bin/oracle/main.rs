@@ -3,6 +3,7 @@
 //!     oracle read FILE                   HALL n rows, or REFUSED number row
 //!     oracle check FILE ROWS             JOINS, MISSES with the shore, or REFUSED
 //!     oracle tight FILE ROWS JUNCTION    AROUND with the set, MISSES, or REFUSED
+//!     oracle route FILE ROWS FROM TO     ROUTE with the rows, below 0 if run backward, MISSES, or REFUSED
 //!     oracle plan FILE                   the first joining choice: OPEN, its rows, TOTAL; or REFUSED
 //!     oracle list FILE                   a right printed list
 //!     oracle judge FILE LIST             RIGHT, or what is wrong with a printed list
@@ -17,7 +18,7 @@ use std::process::ExitCode;
 
 use oracle::{hall_in, holds, words, Told, SMALL};
 
-const USAGE: &str = "usage: oracle read|check|tight|plan|list|judge|lines ..., as src/bin/oracle/main.rs says";
+const USAGE: &str = "usage: oracle read|check|tight|route|plan|list|judge|lines ..., as src/bin/oracle/main.rs says";
 
 /// The answer, or what is wrong.
 fn answer(request: &[&str]) -> Result<String, String> {
@@ -28,6 +29,7 @@ fn answer(request: &[&str]) -> Result<String, String> {
         },
         ["check", name, rows] => told(oracle::check(&file(name)?, &choice(rows)?)),
         ["tight", name, rows, junction] => tight(&file(name)?, &choice(rows)?, number(junction)?),
+        ["route", name, rows, from, to] => route(&file(name)?, &choice(rows)?, number(from)?, number(to)?),
         ["plan", name] => plans::choice(&file(name)?),
         ["list", name] => plans::list(&file(name)?),
         ["judge", name, list] => judge(name, &String::from_utf8_lossy(&file(list)?))?,
@@ -79,6 +81,22 @@ fn tight(file: &[u8], choice: &[u32], junction: u32) -> String {
         _ => {}
     }
     told(reply)
+}
+
+/// Number of rows by number of rows, and in small halls by every sequence of steps too.
+fn route(file: &[u8], choice: &[u32], from: u32, to: u32) -> String {
+    let ([number, row, outcome, set, _], rows) = oracle::route(file, choice, from, to);
+    match hall_in(file) {
+        Ok(hall) if hall.n <= 7 && outcome == 4 => {
+            let tried = oracle::route_by_trying(&hall, choice, from.into(), to.into());
+            assert_eq!(rows, tried, "number of rows by number of rows and every sequence");
+        }
+        _ => {}
+    }
+    match outcome {
+        4 => format!("ROUTE{}\n", words(&rows)),
+        _ => told([number, row, outcome, set]),
+    }
 }
 
 fn main() -> ExitCode {
