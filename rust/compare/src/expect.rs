@@ -3,11 +3,12 @@
 use halls::Random;
 use oracle::{Claim, Hall};
 
+use crate::routes::some_routes;
 use crate::{Lists, Planned, Planner};
 
-type Outcome = Result<(), String>;
+pub type Outcome = Result<(), String>;
 
-fn same<T: PartialEq + std::fmt::Debug>(what: &str, given: T, expected: T) -> Outcome {
+pub fn same<T: PartialEq + std::fmt::Debug>(what: &str, given: T, expected: T) -> Outcome {
     if given == expected {
         Ok(())
     } else {
@@ -15,8 +16,8 @@ fn same<T: PartialEq + std::fmt::Debug>(what: &str, given: T, expected: T) -> Ou
     }
 }
 
-/// Check and tight neighbourhoods on a few choices, and on lists that are no choice.
-pub fn check_and_tight(planner: &Planner, file: &[u8], seed: u64) -> Outcome {
+/// Check, tight neighbourhoods and routes on a few choices, and on lists that are no choice.
+pub fn calls_with_a_choice(planner: &Planner, file: &[u8], seed: u64) -> Outcome {
     let mut random = Random::new(seed);
     let lists = match oracle::hall_in(file) {
         Ok(hall) => lists_for(&hall, &mut random),
@@ -30,11 +31,11 @@ pub fn check_and_tight(planner: &Planner, file: &[u8], seed: u64) -> Outcome {
             tight(planner, file, list, junction)?;
         }
     }
-    Ok(())
+    some_routes(planner, file, &lists, &mut random)
 }
 
 /// Choices of a hall, the last of which joins and can spare no row, and lists that are no choice.
-fn lists_for(hall: &Hall, random: &mut Random) -> Vec<Vec<u32>> {
+pub fn lists_for(hall: &Hall, random: &mut Random) -> Vec<Vec<u32>> {
     let count = hall.rows.len() as u32;
     let unfixed = oracle::unfixed(hall);
     let mut lists = vec![vec![], unfixed.clone(), vec![0], vec![count + 1], vec![1, 1], vec![2, 1]];

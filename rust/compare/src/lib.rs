@@ -1,11 +1,16 @@
-//! The planners that there are, behind the same three calls, and what each call must answer.
+//! The planners that there are, behind the same four calls, and what each call must answer.
 
 mod expect;
+mod routes;
 
-pub use expect::{check_and_tight, first_plan, plan, short_lists, small_plan};
+pub use expect::{calls_with_a_choice, first_plan, plan, short_lists, small_plan};
+pub use routes::every_route;
 
 /// Number, row, outcome, set.
 pub type Told = [u64; 4];
+
+/// Number, row, outcome, set, filled.
+pub type Routed = [u64; 5];
 
 /// Number, row, chosen, cuts, levels, total.
 pub type Planned = [u64; 6];
@@ -36,10 +41,14 @@ impl Lists {
     }
 }
 
+/// From one junction to another, into a lent list.
+pub type Route = fn(&[u8], &[u32], u32, u32, &mut [i32]) -> Routed;
+
 pub struct Planner {
     pub name: &'static str,
     pub check: fn(&[u8], &[u32]) -> Told,
     pub tight: fn(&[u8], &[u32], u32) -> Told,
+    pub route: Route,
     pub plan: fn(&[u8], &mut Lists) -> Planned,
 }
 
@@ -58,6 +67,11 @@ macro_rules! planner {
             name: $name,
             check: |file, choice| told($of::check(file, choice)),
             tight: |file, choice, junction| told($of::tight(file, choice, junction)),
+            route: |file, choice, from, to, rows| match $of::route_into(file, choice, from, to, rows) {
+                Ok($of::Way::Misses(shore)) => [0, 0, 2, shore, 0],
+                Ok($of::Way::Route(filled)) => [0, 0, 4, 0, filled as u64],
+                Err(refusal) => [refusal.number.into(), refusal.row.into(), 0, 0, 0],
+            },
             plan: |file, lent| {
                 let Lists { rows, shores, weights, levels } = lent;
                 match $of::plan_into(file, rows, shores, weights, levels) {

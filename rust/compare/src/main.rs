@@ -1,7 +1,7 @@
 //! Tries each planner on halls and files from fixed seeds and compares every answer with the oracle's.
 //! `compare [TIMES]` tries so many times as many random halls.
 
-use compare::{check_and_tight, first_plan, plan, planners, short_lists, small_plan, Planner};
+use compare::{calls_with_a_choice, every_route, first_plan, plan, planners, short_lists, small_plan, Planner};
 use halls::{
     all_halls, damaged, fixed_hall, fixed_halls, full_hall, large_fixed_halls, looped_hall, random_files, random_hall,
     sized_files, starred, Kind, KINDS,
@@ -27,12 +27,12 @@ const FIRST_PLAN: Test = |planner, file, _| first_plan(planner, file);
 
 const ALL_OF_SMALL: Test = |planner, file, seed| {
     small_plan(planner, file)?;
-    check_and_tight(planner, file, seed)
+    calls_with_a_choice(planner, file, seed)
 };
 
 const ALL: Test = |planner, file, seed| {
     plan(planner, file)?;
-    check_and_tight(planner, file, seed)
+    calls_with_a_choice(planner, file, seed)
 };
 
 type Draw = fn(Kind, usize, u64) -> Vec<u8>;
@@ -63,6 +63,16 @@ fn suites(times: u64) -> Vec<Suite> {
         let what = format!("plans of all halls: {n} junctions, {rows} rows, fixed or below {prices}");
         suites.push(suite(what, all_halls(n, rows, prices), PLAN_OF_SMALL));
     }
+    let drawn = starred().into_iter().chain(fixed_halls()).chain(sized_files());
+    suites.push(suite("every route: halls drawn by hand, halls at the limits", drawn, every_route));
+    for (n, rows) in [(1, 3), (2, 4), (3, 4), (4, 3)] {
+        let what = format!("every route: all halls, {n} junctions, {rows} rows");
+        suites.push(suite(what, all_halls(n, rows, 1), every_route));
+    }
+    for (n, rows, count) in [(6, 10, 10_000), (16, 48, 300)] {
+        let files = (0..count * times).map(move |seed| random_hall(n, rows, seed));
+        suites.push(suite(format!("every route: up to {n} junctions and {rows} rows"), files, every_route));
+    }
     for (n, rows, count) in [(6, 10, 40_000), (8, 16, 1_000), (8, 32, 1_000), (12, 30, 1_000)] {
         let files = (0..count * times).map(move |seed| random_hall(n, rows, seed));
         suites.push(suite(format!("random halls up to {n} junctions and {rows} rows"), files, ALL_OF_SMALL));
@@ -79,6 +89,7 @@ fn suites(times: u64) -> Vec<Suite> {
     ];
     for (what, draw) in drawn {
         suites.push(suite(format!("{what}, 8 junctions"), of_kinds(draw, 8, 12 * times), ALL_OF_SMALL));
+        suites.push(suite(format!("every route: {what}, 64 junctions"), of_kinds(draw, 64, times), every_route));
         for n in [16, 32, 64] {
             suites.push(suite(format!("{what}, {n} junctions"), of_kinds(draw, n, 12 * times), ALL));
             suites.push(suite(

@@ -24,28 +24,33 @@ fn numbers(rows: &[i32]) -> Vec<u32> {
     rows.iter().map(|row| row.unsigned_abs()).collect()
 }
 
-/// For each junction that is reached, the first of the routes with the fewest rows; where none leads there, none.
-///
-/// Number of rows by number of rows: of the routes to the junctions reached with one row less, each with one row more, the
-/// first to each new junction is kept. What it begins with is the first route to where its last row begins, for another
-/// would make it later.
+/// For each junction the first of the routes with the fewest rows, or none where no route leads there; place 0 has none.
 pub fn first_routes(hall: &Hall, choice: &[u32], from: u64) -> Vec<Option<Vec<i32>>> {
     let steps = steps(hall, choice);
     let mut first = vec![None; hall.n as usize + 1];
     first[from as usize] = Some(vec![]);
-    for _ in 1..hall.n {
-        let mut longer = first.clone();
-        for &(row, start, end) in steps.iter().filter(|step| first[step.2 as usize].is_none()) {
-            let Some(before) = &first[start as usize] else { continue };
-            let found = [&before[..], &[row]].concat();
-            match &longer[end as usize] {
-                Some(other) if numbers(other) <= numbers(&found) => {}
-                _ => longer[end as usize] = Some(found),
-            }
+    loop {
+        let longer = with_one_row_more(&steps, &first);
+        if longer == first {
+            return first;
         }
         first = longer;
     }
-    first
+}
+
+/// From the first routes of up to so many rows to those of one row more: each with one row more, and of those to the same
+/// junction the first. It begins with a first route, for any other to where its last row begins would make it later.
+fn with_one_row_more(steps: &[Step], first: &[Option<Vec<i32>>]) -> Vec<Option<Vec<i32>>> {
+    let mut longer = first.to_vec();
+    for &(row, start, end) in steps.iter().filter(|step| first[step.2 as usize].is_none()) {
+        let Some(before) = &first[start as usize] else { continue };
+        let found = [&before[..], &[row]].concat();
+        match &longer[end as usize] {
+            Some(other) if numbers(other) <= numbers(&found) => {}
+            _ => longer[end as usize] = Some(found),
+        }
+    }
+    longer
 }
 
 /// The same for one junction of a small hall that is reached: all sequences of no step, of one, of two and so on are tried,

@@ -3,6 +3,9 @@
 use halls::{full_hall, hall_file, random_hall, Row, FIXED, KINDS};
 use oracle::{check, first_routes, hall_in, missed, route, route_by_trying, unfixed};
 
+/// Junctions, rows, choice, from, to, and the route.
+type Case<'a> = (u16, &'a [Row], &'a [u32], u32, u32, &'a [i32]);
+
 fn rows_between(file: &[u8], choice: &[u32], from: u32, to: u32) -> Vec<i32> {
     let (reply, rows) = route(file, choice, from, to);
     assert_eq!(reply, [0, 0, 4, 0, rows.len() as u64]);
@@ -36,7 +39,7 @@ fn where_no_row_leads_there_is_no_route() {
 
 #[test]
 fn the_row_numbers_tell_which_of_several_comes_first() {
-    let cases: [(u16, &[Row], &[u32], u32, u32, &[i32]); 6] = [
+    let cases: [Case; 6] = [
         (4, &[(3, 4, 1), (1, 2, 1), (1, 3, 1), (2, 4, 1), (4, 1, 1)], &[], 1, 4, &[2, 4]),
         (2, &[(1, 2, 5), (2, 1, 5)], &[1, 2], 2, 1, &[-1]),
         (2, &[(1, 2, 5), (2, 1, 5)], &[2], 2, 1, &[2]),

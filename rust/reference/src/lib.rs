@@ -1,10 +1,11 @@
 //! Opening lanes at least cost: the method of the proved library in plain Rust, unproved.
-//! It is the baseline for benchmarks and answers the same three calls. Inside, junctions and rows count from 0.
+//! It is the baseline for benchmarks and answers the same four calls. Inside, junctions and rows count from 0.
 
 mod choice;
 mod cuts;
 mod hall;
 mod planner;
+mod route;
 mod sets;
 mod tight;
 
@@ -16,12 +17,20 @@ use choice::Choice;
 pub const ROW_PLACES: usize = 256;
 pub const CUT_PLACES: usize = 125;
 pub const LEVEL_PLACES: usize = 64;
+pub const ROUTE_PLACES: usize = 63;
 
 #[derive(Clone, Copy, Debug, PartialEq, Eq)]
 pub enum Finding {
     Joins,
     Misses(u64),
     Around(u64),
+}
+
+/// A missed shore, or how much of the lent list the route fills.
+#[derive(Clone, Copy, Debug, PartialEq, Eq)]
+pub enum Way {
+    Misses(u64),
+    Route(usize),
 }
 
 /// How much of each lent list is filled, the total, and the work it took.
@@ -54,6 +63,23 @@ pub fn tight(file: &[u8], choice: &[u32], junction: u32) -> Result<Finding, Refu
     Ok(match choice.missed() {
         Some(shore) => Finding::Misses(shore),
         None => Finding::Around(tight::neighbourhood(&choice, &[0; 64], junction as usize - 1)),
+    })
+}
+
+/// Fills the front of the lent list with the first of the routes with the fewest rows.
+pub fn route_into(file: &[u8], choice: &[u32], from: u32, to: u32, rows: &mut [i32]) -> Result<Way, Refusal> {
+    if rows.len() < ROUTE_PLACES {
+        return Err(Refusal::new(1));
+    }
+    let hall = hall::read(file)?;
+    let choice = Choice::read(&hall, choice)?;
+    let ends = [from, to].map(|junction| junction as usize);
+    if ends.iter().any(|&end| end == 0 || end > hall.n) {
+        return Err(Refusal::new(11));
+    }
+    Ok(match choice.missed() {
+        Some(shore) => Way::Misses(shore),
+        None => Way::Route(route::fill(&choice, ends[0] - 1, ends[1] - 1, rows)),
     })
 }
 

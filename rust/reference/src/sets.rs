@@ -37,6 +37,19 @@ pub fn reached(arcs: &Arcs, start: u64) -> u64 {
     seen
 }
 
+/// For each junction how many arcs lead to it from `start` at the least; 64 where none do.
+pub fn distances(arcs: &Arcs, start: usize) -> [u8; 64] {
+    let mut distances = [64; 64];
+    let (mut seen, mut layer, mut distance): (u64, u64, u8) = (1 << start, 1 << start, 0);
+    while layer != 0 {
+        members(layer).for_each(|junction| distances[junction] = distance);
+        layer = next_layer(arcs, layer) & !seen;
+        seen |= layer;
+        distance += 1;
+    }
+    distances
+}
+
 /// The set reached from the lowest of n junctions that does not reach all; a search that meets a lower one need not go on.
 pub fn missed(arcs: &Arcs, n: usize) -> Option<u64> {
     let found = |j| reached_short_of(arcs, j, (1 << j) - 1);
