@@ -87,7 +87,7 @@ fn tight(file: &[u8], choice: &[u32], junction: u32) -> String {
 fn route(file: &[u8], choice: &[u32], from: u32, to: u32) -> String {
     let ([number, row, outcome, set, _], rows) = oracle::route(file, choice, from, to);
     match hall_in(file) {
-        Ok(hall) if hall.n <= 7 && outcome == 4 => {
+        Ok(hall) if hall.n <= 8 && outcome == 4 => {
             let tried = oracle::route_by_trying(&hall, choice, from.into(), to.into());
             assert_eq!(rows, tried, "number of rows by number of rows and every sequence");
         }
