@@ -1,22 +1,28 @@
 //! Times each planner's calls on the same full halls and prints docs/BENCHMARKS.md. A time is a hall's best of several runs;
 //! the planners take turns, so that what else the machine does meets them alike.
 
+mod beside;
 mod calls;
 mod growth;
 mod table;
 
 use calls::{Case, CALLS, RUNS};
 use compare::{planners, Lists};
-use halls::{full_hall, KINDS};
+use halls::{full_hall, Kind, KINDS};
 use table::Table;
 
 const HALLS: u64 = 30;
-const SIZES: [usize; 4] = [8, 16, 32, 64];
+const FULL: usize = 64;
+const SIZES: [usize; 4] = [8, 16, 32, FULL];
 
 /// The machine's load over the last minute, as the system tells it.
 fn load() -> String {
     let told = std::fs::read_to_string("/proc/loadavg").unwrap_or_default();
     told.split(' ').next().unwrap_or_default().to_string()
+}
+
+fn cases(kind: Kind, n: usize, lent: &mut Lists) -> Vec<Case> {
+    (0..HALLS).map(|seed| Case::new(full_hall(kind, n, seed), n, lent)).collect()
 }
 
 fn main() {
@@ -35,12 +41,14 @@ reference, hall by hall."
         let mut table = Table::new(call, &planners);
         for kind in KINDS {
             for n in SIZES {
-                let cases: Vec<Case> =
-                    (0..HALLS).map(|seed| Case::new(full_hall(kind, n, seed), n, &mut lent)).collect();
-                table.line(kind.name(), n, &cases, &mut lent);
+                table.line(kind.name(), n, &cases(kind, n, &mut lent), &mut lent);
             }
         }
         table.growth();
-        table.end(SIZES[SIZES.len() - 1]);
+        table.end(FULL);
+    }
+    beside::print_head(&planners);
+    for kind in KINDS {
+        beside::print_line(kind.name(), FULL, &planners, &cases(kind, FULL, &mut lent), &mut lent);
     }
 }

@@ -19,7 +19,7 @@ pub struct Table<'a> {
 }
 
 /// The middle and the greatest.
-fn median_and_worst(mut values: Vec<f64>) -> (f64, f64) {
+pub fn median_and_worst(mut values: Vec<f64>) -> (f64, f64) {
     values.sort_by(f64::total_cmp);
     (values[values.len() / 2], values[values.len() - 1])
 }
