@@ -7,12 +7,14 @@
 //!     oracle plan FILE                   the first joining choice: OPEN, its rows, TOTAL; or REFUSED
 //!     oracle list FILE                   a right printed list
 //!     oracle judge FILE LIST             RIGHT, or what is wrong with a printed list
-//!     oracle lines trychoices            what trychoices has to print
+//!     oracle lines PROGRAM               what trychoices or tryroutes has to print
 //!
 //! ROWS is a list of row numbers with commas, or - for none. Without words, each line of standard input is a request.
 
 mod choices;
+mod drawn;
 mod plans;
+mod routes;
 
 use std::process::ExitCode;
 
@@ -34,6 +36,7 @@ fn answer(request: &[&str]) -> Result<String, String> {
         ["list", name] => plans::list(&file(name)?),
         ["judge", name, list] => judge(name, &String::from_utf8_lossy(&file(list)?))?,
         ["lines", "trychoices"] => choices::lines(),
+        ["lines", "tryroutes"] => routes::lines(),
         _ => return Err(USAGE.to_string()),
     })
 }
