@@ -57,7 +57,7 @@ uint32_t himalowen_tight(const uint8_t *file, size_t file_length,
 
 /* The route with the fewest rows from one junction to another, over rows forward and chosen rows backward, for a joining
  * choice; of such routes the one whose row numbers, in travelling order, come first in dictionary order. Each row stands
- * as its number, below 0 where it is run backward; from a junction to itself there is none. For a choice that misses a
+ * as its number, below 0 where it is run backward; a junction to itself is the empty route. For a choice that misses a
  * cut, the check's reply. 11 if either junction is outside 1 to n, after 10 and before the check's reply. */
 uint32_t himalowen_route(const uint8_t *file, size_t file_length,
                          const uint32_t *choice, size_t choice_length,
