@@ -125,7 +125,7 @@ fn print_signed(number: i32) {
 
 // The line of a route: the first numbers of a list, as many as said and as it has.
 pub fn print_route(rows: &[i32], count: usize) {
-    io::write_all(STDOUT_FILENO, b"route");
+    io::write_all(STDOUT_FILENO, b"ROUTE");
     let mut k: usize = 0;
     while k < count && k < rows.len() {
         print_signed(rows[k]);

@@ -1,4 +1,5 @@
 pub mod Steps
+pub mod ReachStep
 pub mod Turned
 pub mod Reached
 pub mod Shortest

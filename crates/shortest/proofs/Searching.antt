@@ -1,21 +1,20 @@
 -- The reach step from the target over the rows turned round gives the fewest rows to the target. Assumes nothing.
-use mathlib.Core.Path.{_≡_, ap, _∙_}
+use mathlib.Core.Path.{_≡_, _∙_}
 use mathlib.Core.Bool.{Bool, true}
 use mathlib.Core.List.{List}
 use mathlib.Core.Option.{none, some}
-use Prim.Native.Nat.{ℕ, _^_, _≤_, _<_}
+use Prim.Native.Nat.{ℕ, _≤_, _<_}
 use native.Mathlib.Omega.{arith}
 use Rattle.laws.specs.Lists.{at}
 use Rattle.laws.proofs.Booleans.{not-false-true}
 use Rattle.junctions.specs.Sets.{holds}
 use Rattle.digraph.specs.Search.{if-held, Reached}
-use Rattle.digraph.proofs.Walks.{fewest-alike, fewest-narrow}
 use Rattle.hall.specs.Hall.{Hall, hall, member, joins}
 use Rattle.dicuts.specs.Shores.{Ranged}
 use Rattle.dicuts.specs.Arcs.{arcs}
-use Rattle.joining.proofs.Sealed.{arcs-lt}
 use Rattle.routes.specs.Reached.{Fewest-to}
 use Rattle.routes.specs.Turned.{turned}
+use Rattle.routes.proofs.ReachStep.{arcs-fewest}
 use Rattle.routes.proofs.Reached.{joins-steps}
 use Rattle.routes.proofs.Turned.{turned-count, turned-from, turned-to, fewest-to-target}
 use Rattle.columns.specs.Columns.{flagged, Columns, Arcs}
@@ -43,10 +42,8 @@ module _ (h : Hall) (n m : ℕ) (ts hs : List ℕ) (cols : Columns h n m ts hs) 
       let k = if-held (holds r x) (at dist x) in
       let in-hall : h .n ≤ 64 = omega (arith, cols .junctions) in
       let high-b : b ≤ h .n = omega (arith, cols .junctions) in
-      let inside : (j : ℕ) → 1 ≤ j → j ≤ h .n → at sets j < 2 ^ h .n = (λ j p q. rw (set-is j p q) (arcs-lt (turned h) (λ i. member i c) j)) in
       fewest-to-target h rg c x b l u low high-b k
-      (fewest-alike (h .n) (at sets) (arcs (turned h) (λ i. member i c)) (λ u v p q y z. ap (λ (s : ℕ). holds s v) (set-is u p q)) b low high-b x k
-      (fewest-narrow (h .n) (at sets) in-hall inside b low high-b x k (found .fewest x l (omega arith))))
+      (arcs-fewest (turned h) (λ i. member i c) (at sets) in-hall set-is b low high-b x k (found .fewest x l (omega arith)))
 
   pub fewest-there : joins h c ≡ true → (x : ℕ) → 1 ≤ x → x ≤ h .n → Fewest-to h c x b (some (at dist x)) × (at dist x < 64)
   unfolding if-held Fewest-to
