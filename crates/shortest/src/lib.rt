@@ -4,28 +4,29 @@ ghost use mathlib.Core.Bool.{true, cond};
 ghost use mathlib.Core.List.{List};
 ghost use mathlib.Core.Option.{some};
 ghost use Prim.Native.Nat.{ℕ, _≤_, _<_};
-ghost use lib.ListN.{length};
+ghost use lib.ListN.{length, replicate};
 ghost use Rattle.laws.specs.Lists.{at, in-front};
 ghost use Rattle.hall.specs.Hall.{Hall, member, joins};
 ghost use Rattle.dicuts.specs.Shores.{Ranged};
 ghost use Rattle.routes.specs.Route.{Step, signed, all-signed, Shortest-route};
 ghost use Rattle.routes.specs.Reached.{Fewest-to};
 ghost use Rattle.columns.specs.Columns.{Ends, Columns, flagged};
-ghost use Rattle.shortest.specs.Steps.{Noted, Rows-over, Guided};
+ghost use Rattle.shortest.specs.Steps.{Noted, First-rows, Guided};
 
-// Writes row k for the junction that it leads from, if it leads to one nearer the target.
+// Writes row k for the junction that it leads from, if none is written there and it leads to one nearer the target.
 fn note(first: &mut [usize; 64], distances: &[u8; 64], k: usize, from: usize, to: usize)
     requires { ⌜ (length (now first) ≡ 64) × (1 ≤ from) × (from ≤ 64) × (1 ≤ to) × (to ≤ 64) ⌝ }
     ensures { λ _. ⌜ Noted (at (now (distances .entry))) k from to (now (first .entry)) (now (first .exit)) ⌝ }
 {
     let near = digraph::distance(distances, to) as usize;
     let far = digraph::distance(distances, from) as usize;
-    if near + 1 == far {
+    let noted = first[from - 1];
+    if (noted == 0) & (near + 1 == far) {
         first[from - 1] = k;
     }
 }
 
-// For each junction the lowest row that leads from it to one nearer the target, where there is one.
+// For each junction the lowest row that leads from it to one nearer the target, 0 where none does.
 fn first_rows<'a>(
     m: usize,
     tails: &'a [u8; 256],
@@ -34,18 +35,18 @@ fn first_rows<'a>(
     distances: &'a [u8; 64],
     first: &mut [usize; 64],
 )
-    requires { ⌜ Ends 64 m (now tails) (now heads) × (length (now first) ≡ 64) ⌝ }
-    ensures { λ _. ⌜ Rows-over 0 m (now (tails .entry)) (now (heads .entry)) (now (chosen .entry)) (at (now (distances .entry))) (now (first .exit)) ⌝ }
+    requires { ⌜ Ends 64 m (now tails) (now heads) × (now first ≡ replicate 64 0) ⌝ }
+    ensures { λ _. ⌜ First-rows m (now (tails .entry)) (now (heads .entry)) (now (chosen .entry)) (at (now (distances .entry))) (now (first .exit)) ⌝ }
 {
-    let mut k = m;
-    while k > 0 {
-        let tail = tails[k - 1] as usize;
-        let head = heads[k - 1] as usize;
-        note(first, distances, k, tail, head);
-        if chosen[k - 1] {
-            note(first, distances, k, head, tail);
+    let mut k: usize = 0;
+    while k < m {
+        let tail = tails[k] as usize;
+        let head = heads[k] as usize;
+        note(first, distances, k + 1, tail, head);
+        if chosen[k] {
+            note(first, distances, k + 1, head, tail);
         }
-        k -= 1;
+        k += 1;
     }
 }
 
