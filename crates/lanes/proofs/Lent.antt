@@ -9,6 +9,7 @@ use lib.Dec.{ltb}
 use lib.IntN.{ℤ}
 use lib.ListN.{length, getD, take, drop, List·getD-append}
 use borrow.Author.Tests.{lt-ltb, le-ltb}
+use Rattle.laws.specs.Lists.{in-front}
 use Rattle.laws.proofs.Booleans.{or-l, or-r, cond-true}
 use Rattle.hall.specs.Hall.{Hall}
 use Rattle.hall.specs.File.{hall-in, hall-refusal, Refusal, refusal}
@@ -20,7 +21,7 @@ use Rattle.cutlist.specs.declared.Lists.{Lists}
 use Rattle.cutlist.specs.Cuts.{lent-cut, lent, listed-cut, cuts-from, cuts-of}
 use Rattle.cutlist.proofs.Lent.{cuts-in-front}
 use Rattle.planning.specs.declared.Planned.{Planned}
-use Rattle.planning.specs.Plan.{unplanned, plan-refusal, shores, weights, in-front, Filled, Turned, Plan-as, Plan-says}
+use Rattle.planning.specs.Plan.{unplanned, plan-refusal, shores, weights, Filled, Turned, Plan-as, Plan-says}
 use Rattle.planning.proofs.Fronts.{front-fits, shores-length, weights-length, shore-at, weight-at}
 use Rattle.lanes.specs.Lent.{lent-refusal, Lent-filled, Lent-turned, Lent-as, Lent-says, Outlined}
 

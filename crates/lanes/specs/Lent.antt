@@ -6,6 +6,7 @@ use Prim.Native.Nat.{ℕ, zero, suc, _≤_}
 use lib.Dec.{ltb}
 use lib.ListN.{length, drop}
 use lib.IntN.{ℤ}
+use Rattle.laws.specs.Lists.{in-front}
 use Rattle.hall.specs.Hall.{Hall}
 use Rattle.hall.specs.File.{hall-in, hall-refusal, Refusal, refusal}
 use Rattle.hall.specs.Plan as plan
@@ -14,7 +15,6 @@ use Rattle.refusals.specs.Kinds.{refusal-of}
 use Rattle.cutlist.specs.declared.Cut.{Cut}
 use Rattle.cutlist.specs.Cuts.{lent, cuts-from}
 use Rattle.planning.specs.declared.Planned.{Planned}
-use Rattle.planning.specs.Plan.{in-front}
 use Rattle.lanes.specs.declared.Outline.{Outline}
 
 -- 1 where a lent list is too short, then the hall's

@@ -9,6 +9,7 @@ use lib.IntN.{ℤ, pos}
 use lib.ListN.{length, getD, take, drop, length-append, length-drop, take-append-drop, length-map, List·getD-append, List·getD-map}
 use lib.Seq.{ext-getD, getD-append-add, getD-drop, take-at}
 use borrow.Author.Tests.{ltb-true, ltb-false}
+use Rattle.laws.specs.Lists.{in-front}
 use Rattle.laws.proofs.Booleans.{by-bool}
 use Rattle.hall.specs.Hall.{Hall}
 use Rattle.hall.specs.Plan.{Cut, cut, levels}
@@ -16,7 +17,7 @@ use Rattle.shorelist.specs.Listed.{place-of}
 use Rattle.levels.specs.Levels.{cuts-in, Levelled}
 use Rattle.levels.proofs.Levelling.{levelled-levels}
 use Rattle.cuts.specs.Filled.{Filled-with}
-use Rattle.planning.specs.Plan.{shores, weights, in-front}
+use Rattle.planning.specs.Plan.{shores, weights}
 
 module _ {A : Type 0} (z : A) where
   pub front-is : (new old xs : List A) → length new ≤ length old → length xs ≡ length old → ((k : ℕ) → k < length new → getD xs k z ≡ getD new k z)

@@ -8,7 +8,7 @@ use lib.Dec.{eqb, ltb}
 use lib.IntN.{ℤ}
 use lib.ListN.{length, getD, drop, replicate, getD-replicate}
 use borrow.Author.Tests.{eqb-true, eqb-false, ltb-false}
-use Rattle.laws.specs.Lists.{at}
+use Rattle.laws.specs.Lists.{at, in-front}
 use Rattle.laws.specs.Finite.{sum-below}
 use Rattle.laws.proofs.Booleans.{cond-true, cond-false, or-false-l, or-false-r}
 use Rattle.hall.specs.Hall.{Hall, count}
@@ -34,7 +34,7 @@ use Rattle.ledger.proofs.Choices.{flagged-total}
 use Rattle.repair.specs.declared.State.{State}
 use Rattle.plan.proofs.Prices.{Accepted, Least}
 use Rattle.planning.specs.declared.Planned.{Planned}
-use Rattle.planning.specs.Plan.{unplanned, plan-refusal, in-front, Filled, Turned, Plan-as, Plan-says}
+use Rattle.planning.specs.Plan.{unplanned, plan-refusal, Filled, Turned, Plan-as, Plan-says}
 use Rattle.planning.proofs.Fronts.{cuts-count, shores-front, weights-front, levels-front}
 use Rattle.hallfile.proofs.Accepted as accepted
 

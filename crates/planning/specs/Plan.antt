@@ -6,6 +6,7 @@ use Prim.Native.Nat.{ℕ, zero, suc}
 use lib.Dec.{ltb}
 use lib.ListN.{length, drop}
 use lib.IntN.{ℤ}
+use Rattle.laws.specs.Lists.{in-front}
 use Rattle.hall.specs.Hall.{Hall}
 use Rattle.hall.specs.File.{hall-in, hall-refusal, Refusal, refusal}
 use Rattle.hall.specs.Plan.{First, total, Cut, Beside, levels}
@@ -27,10 +28,6 @@ shores (k ∷ ks) = k .shore ∷ shores ks
 unfoldable pub weights : List Cut → List ℕ
 weights [] = []
 weights (k ∷ ks) = k .weight ∷ weights ks
-
--- a list's first places filled, the others as they were
-unfoldable pub in-front : (new old : List ℕ) → List ℕ
-in-front new old = new ++ drop (length new) old
 
 -- a plan's reply and the lent lists before and after
 unfoldable pub Filled : Hall → (choice : List ℕ) → List Cut → Planned → (a a-now b b-now c c-now : List ℕ) → (d d-now : List ℤ) → Type 0

@@ -8,6 +8,7 @@ use lib.Dec.{eqb}
 use lib.IntN.{ℤ}
 use lib.ListN.{length, take, drop, length-append}
 use borrow.Author.Tests.{eqb-true}
+use Rattle.laws.specs.Lists.{in-front}
 use Rattle.laws.proofs.Booleans.{clash}
 use Rattle.hall.specs.Hall.{Hall, count}
 use Rattle.hall.specs.File.{Refusal, refusal, hall-in, hall-refusal}
@@ -17,7 +18,7 @@ use Rattle.refusals.specs.Kinds.{refusal-of}
 use Rattle.hallfile.specs.Record.{record-of}
 use Rattle.levels.proofs.Levelling.{levels-size}
 use Rattle.planning.specs.declared.Planned.{Planned}
-use Rattle.planning.specs.Plan.{plan-refusal, shores, weights, in-front, Filled, Turned, Plan-as, Plan-says}
+use Rattle.planning.specs.Plan.{plan-refusal, shores, weights, Filled, Turned, Plan-as, Plan-says}
 use Rattle.planning.proofs.Fronts.{front-fits, front-are, shores-length, weights-length}
 use Rattle.lines.specs.Placed.{In-front}
 use Rattle.printing.specs.Printed.{printed-plan, printed-refusal}
