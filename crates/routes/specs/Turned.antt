@@ -7,5 +7,5 @@ unfoldable pub turned-row : Row → Row
 turned-row r = record { from = r .to; to = r .from; price = r .price; fixed = r .fixed }
 
 -- each row turned round
-unfoldable pub turned : Hall → Hall
-turned h = hall (h .n) (map turned-row (h .rows))
+unfoldable pub all-turned : Hall → Hall
+all-turned h = hall (h .n) (map turned-row (h .rows))

@@ -13,7 +13,7 @@ use Rattle.hall.specs.Hall.{Hall, hall, member, joins}
 use Rattle.dicuts.specs.Shores.{Ranged}
 use Rattle.dicuts.specs.Arcs.{arcs}
 use Rattle.routes.specs.Reached.{Fewest-to}
-use Rattle.routes.specs.Turned.{turned}
+use Rattle.routes.specs.Turned.{all-turned}
 use Rattle.routes.proofs.ReachStep.{arcs-fewest}
 use Rattle.routes.proofs.Reached.{joins-steps}
 use Rattle.routes.proofs.Turned.{turned-count, turned-from, turned-to, fewest-to-target}
@@ -21,8 +21,8 @@ use Rattle.columns.specs.Columns.{flagged, Columns, Arcs}
 use Rattle.adjacency.proofs.Arcs.{arcs-ext}
 
 -- the columns exchanged are those of the rows turned round
-pub columns-turned : (h : Hall) (n m : ℕ) (tails heads : List ℕ) → Columns h n m tails heads → Columns (turned h) n m heads tails
-unfolding turned hall
+pub columns-turned : (h : Hall) (n m : ℕ) (tails heads : List ℕ) → Columns h n m tails heads → Columns (all-turned h) n m heads tails
+unfolding all-turned hall
 columns-turned h n m ts hs cols = record {
   junctions = cols .junctions;
   rows = turned-count h ∙ cols .rows;
@@ -31,19 +31,19 @@ columns-turned h n m ts hs cols = record {
 }
 
 module _ (h : Hall) (n m : ℕ) (ts hs : List ℕ) (cols : Columns h n m ts hs) (rg : Ranged h) (small : n ≤ 64) (fs : List Bool) (c : List ℕ) (same : (i : ℕ) → 1 ≤ i → i ≤ m → flagged fs i ≡ member i c)
-    (sets : List ℕ) (are : Arcs (turned h) (flagged fs) sets) (b : ℕ) (low : 1 ≤ b) (high : b ≤ n) (r : ℕ) (before dist : List ℕ) (found : Reached 64 (at sets) b r before dist) where
-  set-is : (x : ℕ) → 1 ≤ x → x ≤ h .n → at sets x ≡ arcs (turned h) (λ i. member i c) x
-  unfolding Arcs turned hall
-  set-is x l u = are x l u ∙ arcs-ext (turned h) (flagged fs) (λ i. member i c) (λ i p q. same i p (omega (arith, q, turned-count h, cols .rows))) x
+    (sets : List ℕ) (are : Arcs (all-turned h) (flagged fs) sets) (b : ℕ) (low : 1 ≤ b) (high : b ≤ n) (r : ℕ) (before dist : List ℕ) (found : Reached 64 (at sets) b r before dist) where
+  set-is : (x : ℕ) → 1 ≤ x → x ≤ h .n → at sets x ≡ arcs (all-turned h) (λ i. member i c) x
+  unfolding Arcs all-turned hall
+  set-is x l u = are x l u ∙ arcs-ext (all-turned h) (flagged fs) (λ i. member i c) (λ i p q. same i p (omega (arith, q, turned-count h, cols .rows))) x
 
   held-or-none : (x : ℕ) → 1 ≤ x → x ≤ h .n → Fewest-to h c x b (if-held (holds r x) (at dist x))
-  unfolding turned hall
+  unfolding all-turned hall
   held-or-none x l u =
       let k = if-held (holds r x) (at dist x) in
       let in-hall : h .n ≤ 64 = omega (arith, cols .junctions) in
       let high-b : b ≤ h .n = omega (arith, cols .junctions) in
       fewest-to-target h rg c x b l u low high-b k
-      (arcs-fewest (turned h) (λ i. member i c) (at sets) in-hall set-is b low high-b x k (found .fewest x l (omega arith)))
+      (arcs-fewest (all-turned h) (λ i. member i c) (at sets) in-hall set-is b low high-b x k (found .fewest x l (omega arith)))
 
   pub fewest-there : joins h c ≡ true → (x : ℕ) → 1 ≤ x → x ≤ h .n → Fewest-to h c x b (some (at dist x)) × (at dist x < 64)
   unfolding if-held Fewest-to
