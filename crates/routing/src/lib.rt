@@ -118,13 +118,14 @@ pub fn route(file: &[u8], choice: &[u32], from: u32, to: u32, rows: &mut [i32]) 
     if !refusal.is_none() {
         return turned_back(refusal);
     }
-    let hall = opened.hall;
+    let tails = opened.hall.tails;
+    let heads = opened.hall.heads;
     let chosen = opened.chosen;
     way_in(
-        hall.n,
-        hall.count,
-        &hall.tails,
-        &hall.heads,
+        opened.hall.n,
+        opened.hall.count,
+        &tails,
+        &heads,
         &chosen,
         from as usize,
         to as usize,

@@ -78,7 +78,7 @@ module _ (e : tie.Else2) where
   flags = opening.flags (file tested) choice found (at-opening tested .open-choice .ensures) (tested .is-none .result) (tested .is-none .ensures) (e .if2 .left)
 
 -- where there is no refusal, from where the way is looked for
-abbrev at-hall : tie.After-way-in-arg3 → tie.Else2
+abbrev at-hall : tie.After-way-in-arg → tie.Else2
 at-hall c = c .before .before .before .before .before .before .before
 
 turned-back-requires : tie.Need-turned-back-requires
