@@ -84,7 +84,7 @@ module _ (out : ℕ → ℕ) (start set goal : ℕ) (from-one : 1 ≤ start) (to
         layer-below 64 round start from-one to-last (distances 64 round start) (distances-are 64 round start from-one to-last) (at before) goal
         (at dist) layer done d (s .2) p (s .0)
 
-    pub breadth-step : (dist′ : List ℕ) (found : ℕ) → bitAnd layer goal ≡ 0 → Marked dist dist′ layer d → found < 2 ^ 64 →
+    pub breadth-step : (dist′ : List ℕ) (found : ℕ) → bitAnd layer goal ≡ 0 → Marked dist dist′ layer (λ _. d) → found < 2 ^ 64 →
         ((y : ℕ) → holds found y ≡ arc-from 64 out layer y) →
         Turn out start set goal before dist′ (bitXor found (bitAnd found (bitOr set (bitOr done layer)))) (bitOr done layer) (d + 1)
     breadth-step dist′ found unmet marked h found-is = (
@@ -111,7 +111,7 @@ module _ (out : ℕ → ℕ) (start set goal : ℕ) (from-one : 1 ≤ start) (to
             ∙ neither (arc-from 64 out layer j) (holds set j) (holds (bitOr done layer) j)
             ∙ ap (λ (a : Bool). a && not (holds (bitOr done layer) j)) (sym (arc-from-avoiding 64 out set layer j))
 
-    pub breadth-stop : (dist′ : List ℕ) → (not (eqb layer 0) && eqb (bitAnd layer goal) 0) ≡ false → Marked dist dist′ (bitAnd layer goal) d →
+    pub breadth-stop : (dist′ : List ℕ) → (not (eqb layer 0) && eqb (bitAnd layer goal) 0) ≡ false → Marked dist dist′ (bitAnd layer goal) (λ _. d) →
         Searched 64 out start set goal (bitOr done (bitAnd layer goal)) before dist′
     breadth-stop dist′ test marked =
         stopped 64 out start set goal from-one to-last (distances 64 round start) (distances-are 64 round start from-one to-last) before dist layer done d

@@ -5,6 +5,7 @@ pub mod Paths
 pub mod Walks
 pub mod Layers
 pub mod Rest
+pub mod Rounding
 pub mod Stopped
 pub mod Breadth
 pub mod Reaching

@@ -39,33 +39,39 @@ spread-step out from found rest more p h e s y =
     (sym (arc-from-split 64 out rest j (bitAnd rest (rest - 1)) y (low .from-one) (low .to-last) (low .in-it) (λ i l. clear-holds rest i p h l)))
     ∙ s y
 
-pub mark-end : (before now : List ℕ) (all rest d : ℕ) → length now ≡ 64 → rest ≡ 0 → Marking before now all rest d → Marked before now all d
-mark-end before now all rest d n e s = record {
+pub mark-end : (before now : List ℕ) (all rest : ℕ) (f : ℕ → ℕ) → length now ≡ 64 → rest ≡ 0 → Marking before now all rest f → Marked before now all f
+mark-end before now all rest f n e s = record {
   size = n;
-  entry = λ j l m. sym (cond-false (holds rest j) d (at now j) (ap (λ (r : ℕ). holds r j) e ∙ none-holds j)) ∙ s j l m;
+  entry = λ j l m. sym (cond-false (holds rest j) (f (at now j)) (at now j) (ap (λ (r : ℕ). holds r j) e ∙ none-holds j)) ∙ s j l m;
 }
 
-pub mark-step : (before now : List ℕ) (all rest d : ℕ) → length now ≡ 64 → 0 < rest → rest < 2 ^ 64
-    → Marking before now all rest d → Marking before (set now (trailingZeros 64 rest) d) all (bitAnd rest (rest - 1)) d
-mark-step before now all rest d n p h s j l m = by-bool (eqb j (trailingZeros 64 rest + 1)) here elsewhere ∙ s j l m
+-- the lowest junction of the rest is marked
+pub mark-step : (before now : List ℕ) (all rest : ℕ) (f : ℕ → ℕ) → length now ≡ 64 → 0 < rest → rest < 2 ^ 64
+    → Marking before now all rest f → Marking before (set now (trailingZeros 64 rest) (f (getD now (trailingZeros 64 rest) 0))) all (bitAnd rest (rest - 1)) f
+mark-step before now all rest f n p h s j l m = by-bool (eqb j (trailingZeros 64 rest + 1)) here elsewhere ∙ s j l m
   where
-    here : eqb j (trailingZeros 64 rest + 1) ≡ true
-        → cond (holds (bitAnd rest (rest - 1)) j) d (at (set now (trailingZeros 64 rest) d) j) ≡ cond (holds rest j) d (at now j)
+    place : ℕ
+    place = trailingZeros 64 rest
+
+    after : List ℕ
+    after = set now place (f (getD now place 0))
+
+    here : eqb j (place + 1) ≡ true → cond (holds (bitAnd rest (rest - 1)) j) (f (at after j)) (at after j) ≡ cond (holds rest j) (f (at now j)) (at now j)
     here e =
         let low = lowest-is rest p h in
-        let is : j ≡ trailingZeros 64 rest + 1 = eqb-true j (trailingZeros 64 rest + 1) e in
-        let place : j - 1 ≡ trailingZeros 64 rest = omega (arith, is) in
+        let is : j ≡ place + 1 = eqb-true j (place + 1) e in
+        let at-place : j - 1 ≡ place = omega (arith, is) in
         let gone : holds (bitAnd rest (rest - 1)) j ≡ false =
         clear-holds rest j p h l ∙ ap (λ (b : Bool). holds rest j && not b) e ∙ and-false (holds rest j) in
-        cond-false (holds (bitAnd rest (rest - 1)) j) d (at (set now (trailingZeros 64 rest) d) j) gone
-        ∙ ap (λ (k : ℕ). getD (set now (trailingZeros 64 rest) d) k 0) place
-        ∙ getD-set-same now (trailingZeros 64 rest) d 0 (omega (arith, n, low .to-last))
-        ∙ sym (cond-true (holds rest j) d (at now j) (ap (holds rest) is ∙ low .in-it))
+        cond-false (holds (bitAnd rest (rest - 1)) j) (f (at after j)) (at after j) gone
+        ∙ ap (λ (k : ℕ). getD after k 0) at-place
+        ∙ getD-set-same now place (f (getD now place 0)) 0 (omega (arith, n, low .to-last))
+        ∙ ap (λ (k : ℕ). f (getD now k 0)) (sym at-place)
+        ∙ sym (cond-true (holds rest j) (f (at now j)) (at now j) (ap (holds rest) is ∙ low .in-it))
 
-    elsewhere : eqb j (trailingZeros 64 rest + 1) ≡ false
-        → cond (holds (bitAnd rest (rest - 1)) j) d (at (set now (trailingZeros 64 rest) d) j) ≡ cond (holds rest j) d (at now j)
+    elsewhere : eqb j (place + 1) ≡ false → cond (holds (bitAnd rest (rest - 1)) j) (f (at after j)) (at after j) ≡ cond (holds rest j) (f (at now j)) (at now j)
     elsewhere e =
         let stays : holds (bitAnd rest (rest - 1)) j ≡ holds rest j =
         clear-holds rest j p h l ∙ ap (λ (b : Bool). holds rest j && not b) e ∙ and-true (holds rest j) in
-        ap₂ (λ (b : Bool) (v : ℕ). cond b d v) stays
-        (getD-set-other now (trailingZeros 64 rest) (j - 1) d 0 (λ q. eqb-false j (trailingZeros 64 rest + 1) e (omega (arith, q))))
+        ap₂ (λ (b : Bool) (v : ℕ). cond b (f v) v) stays
+        (getD-set-other now place (j - 1) (f (getD now place 0)) 0 (λ q. eqb-false j (place + 1) e (omega (arith, q))))

@@ -9,7 +9,7 @@ use lib.ListN.{length}
 use Rattle.junctions.proofs.Bounds.{junction-le}
 use Rattle.junctions.specs.Sets.{holds, Within}
 use Rattle.digraph.specs.Reach.{Closed, Reach}
-use Rattle.digraph.specs.Paths.{Walk, Fewest}
+use Rattle.digraph.specs.Paths.{Walk, Fewest, Turned-round}
 use Rattle.digraph.specs.Distances.{distances}
 use Rattle.digraph.proofs.Closure.{start-reached}
 use Rattle.digraph.proofs.Balls.{distances-are}
@@ -76,7 +76,7 @@ module _ (n : ℕ) (out : ℕ → ℕ) (small : n ≤ 64) (ranged : (j : ℕ) �
       fewest-as 64 n out out x y x y (λ ws c. (ws, walk-narrow x l m ws y c, refl)) (λ ws c. (ws, walk-widen x l m ws y c, refl))
 
 -- arcs turned round
-pub walk-back : (n : ℕ) (out rev : ℕ → ℕ) → ((x y : ℕ) → 1 ≤ x → x ≤ n → 1 ≤ y → y ≤ n → holds (rev y) x ≡ holds (out x) y)
+pub walk-back : (n : ℕ) (out rev : ℕ → ℕ) → Turned-round n out rev
     → (y : ℕ) → 1 ≤ y → y ≤ n → (ws : List ℕ) (x : ℕ) → Walk n rev y ws x → (vs : List ℕ) × Walk n out x vs y × (length vs ≡ length ws)
 unfolding Walk
 walk-back n out rev turned y l m [] x c = ([], sym c, refl)
@@ -85,7 +85,7 @@ walk-back n out rev turned y l m (w ∷ ws) x c =
     let j = walk-join n out x (b .0) w y (b .1) l m (sym (turned w y (c .0) (c .1) l m) ∙ c .2) in
     (j .0, j .1, omega (arith, j .2, b .2))
 
-pub fewest-back : (n : ℕ) (out rev : ℕ → ℕ) → ((x y : ℕ) → 1 ≤ x → x ≤ n → 1 ≤ y → y ≤ n → holds (rev y) x ≡ holds (out x) y)
+pub fewest-back : (n : ℕ) (out rev : ℕ → ℕ) → Turned-round n out rev
     → (x y : ℕ) → 1 ≤ x → x ≤ n → 1 ≤ y → y ≤ n → (k : Option ℕ) → Fewest n rev y x k → Fewest n out x y k
 fewest-back n out rev turned x y l m p q =
     fewest-as n n rev out y x x y (λ ws. walk-back n out rev turned y p q ws x)

@@ -8,10 +8,10 @@ use lib.ListN.{length}
 use Rattle.laws.specs.Lists.{at}
 use Rattle.junctions.specs.Sets.{holds}
 
--- the list `after` has d at the set's junctions, of 64, and is else as before
-pub record Marked (before after : List ℕ) (set d : ℕ) : Type 0 where
+-- the list `after` has what f makes of its numbers at the set's junctions, of 64, and is else as before
+pub record Marked (before after : List ℕ) (set : ℕ) (f : ℕ → ℕ) : Type 0 where
   pub size : length after ≡ 64
-  pub entry : (j : ℕ) → 1 ≤ j → j ≤ 64 → at after j ≡ cond (holds set j) d (at before j)
+  pub entry : (j : ℕ) → 1 ≤ j → j ≤ 64 → at after j ≡ cond (holds set j) (f (at before j)) (at before j)
 
 -- d layers are done and marked, and the next is at hand: `fewest` are the true distances; no junction of the goal is done
 pub record Layered (n : ℕ) (fewest before dist : ℕ → ℕ) (goal layer done d : ℕ) : Type 0 where

@@ -26,6 +26,10 @@ Fewest n out x y none = (ws : List ℕ) → Walk n out x ws y → ⊥
 Fewest n out x y (some k) =
     ((ws : List ℕ) × Walk n out x ws y × (length ws ≡ k)) × ((ws : List ℕ) → Walk n out x ws y → k ≤ length ws)
 
+-- THE ARCS TURNED ROUND: x is in the set of y exactly if y is in the set of x
+abbrev pub Turned-round : (n : ℕ) → (out back : ℕ → ℕ) → Type 0
+Turned-round n out back = (x y : ℕ) → 1 ≤ x → x ≤ n → 1 ≤ y → y ≤ n → holds (back y) x ≡ holds (out x) y
+
 -- a walk on which the distance grows by one at each step, so that no walk to its end has fewer arcs
 unfoldable pub Climb : (n : ℕ) → (out dist : ℕ → ℕ) → (x : ℕ) → List ℕ → (y : ℕ) → Type 0
 Climb n out dist x [] y = x ≡ y

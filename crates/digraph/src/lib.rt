@@ -1,10 +1,12 @@
 // What is reached over an adjacency of up to 64 junction sets, and with how many arcs.
 ghost use mathlib.Core.Path.{_≡_};
-ghost use Prim.Native.Nat.{ℕ, _≤_};
+ghost use Prim.Native.Nat.{ℕ, _-_, _^_, _≤_};
+ghost use lib.Bits.{bitOr};
 ghost use lib.ListN.{length};
 ghost use Rattle.laws.specs.Lists.{at};
 ghost use Rattle.junctions.specs.Sets.{holds};
 ghost use Rattle.digraph.specs.Closure.{arc-from};
+ghost use Rattle.digraph.specs.Paths.{Turned-round};
 ghost use Rattle.digraph.specs.Layers.{Marked, Before, before-test};
 ghost use Rattle.digraph.specs.Search.{Reached, Searched};
 
@@ -19,7 +21,7 @@ pub fn arcs(adjacency: &[u64; 64], j: usize) -> u64
 // Writes d for each junction of the set.
 pub fn mark(distances: &mut [u8; 64], set: u64, d: u8)
     requires { ⌜ length (now distances) ≡ 64 ⌝ }
-    ensures { λ _. ⌜ Marked (now (distances .entry)) (now (distances .exit)) set d ⌝ }
+    ensures { λ _. ⌜ Marked (now (distances .entry)) (now (distances .exit)) set (λ (_ : ℕ). d) ⌝ }
 {
     let mut rest = set;
     while rest != 0 {
@@ -32,7 +34,7 @@ pub fn mark(distances: &mut [u8; 64], set: u64, d: u8)
 // Writes d for each junction of the layer, and gives the junctions that arcs from it lead to.
 pub fn expand(adjacency: &[u64; 64], layer: u64, d: u8, distances: &mut [u8; 64]) -> u64
     requires { ⌜ length (now distances) ≡ 64 ⌝ }
-    ensures { λ r. ⌜ Marked (now (distances .entry)) (now (distances .exit)) layer d × ((y : ℕ) → holds r y ≡ arc-from 64 (at (now (adjacency .entry))) layer y) ⌝ }
+    ensures { λ r. ⌜ Marked (now (distances .entry)) (now (distances .exit)) layer (λ (_ : ℕ). d) × ((y : ℕ) → holds r y ≡ arc-from 64 (at (now (adjacency .entry))) layer y) ⌝ }
 {
     let mut found: u64 = 0;
     let mut rest = layer;
@@ -77,6 +79,34 @@ pub fn reach(adjacency: &[u64; 64], start: usize, distances: &mut [u8; 64]) -> u
     ensures { λ r. ⌜ Reached 64 (at (now (adjacency .entry))) start r (now (distances .entry)) (now (distances .exit)) ⌝ }
 {
     reach_until(adjacency, start, 0, 0, distances)
+}
+
+// Puts junction x into the set of each junction of `into`.
+fn put_into(sets: &mut [u64; 64], into: u64, x: usize)
+    requires { ⌜ (length (now sets) ≡ 64) × (1 ≤ x) × (x ≤ 64) ⌝ }
+    ensures { λ _. ⌜ Marked (now (sets .entry)) (now (sets .exit)) into (λ (s : ℕ). bitOr s (2 ^ (x - 1))) ⌝ }
+{
+    let own: u64 = 1 << (x - 1);
+    let mut rest = into;
+    while rest != 0 {
+        let place = u64::trailing_zeros(rest) as usize;
+        sets[place] = sets[place] | own;
+        rest = rest & (rest - 1);
+    }
+}
+
+// The arcs turned round: for each junction the junctions whose arcs lead to it.
+pub fn turned_round(adjacency: &[u64; 64]) -> [u64; 64]
+    ensures { λ r. ⌜ Turned-round 64 (at (now (adjacency .entry))) (at r) ⌝ }
+{
+    let mut back = [0u64; 64];
+    let mut x: usize = 1;
+    while x <= 64 {
+        let into = arcs(adjacency, x);
+        put_into(&mut back, into, x);
+        x += 1;
+    }
+    back
 }
 
 // The distance of junction j.

@@ -18,7 +18,7 @@ use Rattle.routes.specs.Reached.{Fewest-to, Arcs-of, Reach-gives, Search
 use Rattle.routes.proofs.Steps.{fewest-steps}
 
 -- among 64 junctions, of which the hall's have its arcs
-pub arcs-fewest :
+arcs-fewest :
     (h : Hall) (F : ℕ → Bool) (out : ℕ → ℕ) → h .n ≤ 64 → ((j : ℕ) → 1 ≤ j → j ≤ h .n → out j ≡ arcs h F j) →
     (a : ℕ) → 1 ≤ a → a ≤ h .n → (b : ℕ) (k : Option ℕ) → Fewest 64 out a b k → Fewest (h .n) (arcs h F) a b k
 arcs-fewest h F out small same a low high b k f =
@@ -27,7 +27,7 @@ arcs-fewest h F out small same a low high b k f =
     (fewest-narrow (h .n) out small inside a low high b k f)
 
 -- so the fewest arcs are the fewest rows
-rows-fewest : (h : Hall) (c : List ℕ) (out : ℕ → ℕ) (a b : ℕ) → Arcs-of h c out → 1 ≤ a → a ≤ h .n → (k : Option ℕ) → Fewest 64 out a b k → Fewest-to h c a b k
+pub rows-fewest : (h : Hall) (c : List ℕ) (out : ℕ → ℕ) (a b : ℕ) → Arcs-of h c out → 1 ≤ a → a ≤ h .n → (k : Option ℕ) → Fewest 64 out a b k → Fewest-to h c a b k
 unfolding Arcs-of
 rows-fewest h c out a b is low high k f = fewest-steps h (is .0) c a b k (arcs-fewest h (λ i. member i c) out (is .1) (is .2) a low high b k f)
 

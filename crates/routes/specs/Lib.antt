@@ -1,4 +1,3 @@
 pub mod Route
 pub mod Reached
 pub mod Nearer
-pub mod Turned

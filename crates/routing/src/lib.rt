@@ -86,7 +86,8 @@ fn way_in<'a>(
         → ((i : ℕ) → 1 ≤ i → i ≤ m → flagged (now (chosen .entry)) i ≡ member i c)
         → Routed-for (missed h c) h c from to r (now (rows .entry)) (now (rows .exit))) ⌝ }
 {
-    let shore = choice::missed_shore(n, m, tails, heads, chosen);
+    let arcs = adjacency::of_rows(n, m, tails, heads, chosen);
+    let shore = choice::shortfall(&arcs, n);
     let inside = ((1 <= from) & (from <= n)) & ((1 <= to) & (to <= n));
     if !inside {
         return turned_back(Kind::RouteEnd);
@@ -97,7 +98,7 @@ fn way_in<'a>(
             way: Way::Misses(Junctions(shore)),
         };
     }
-    let filled = shortest::route(n, m, tails, heads, chosen, from, to, rows);
+    let filled = shortest::route(m, tails, heads, chosen, &arcs, from, to, rows);
     Routed {
         refusal: Kind::None,
         way: Way::Route(filled),

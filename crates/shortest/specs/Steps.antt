@@ -7,12 +7,18 @@ use Prim.Native.Nat.{ℕ, _+_, _≤_}
 use lib.Dec.{eqb}
 use lib.ListN.{length}
 use Rattle.laws.specs.Lists.{at}
-use Rattle.hall.specs.Hall.{Hall, row, count}
+use Rattle.hall.specs.Hall.{Hall, row, count, member}
 use Rattle.dicuts.specs.Shores.{Ranged}
 use Rattle.routes.specs.Route.{Step}
-use Rattle.routes.specs.Reached.{Fewest-to}
+use Rattle.routes.specs.Reached.{Fewest-to, Arcs-of}
 use Rattle.routes.specs.Nearer.{Lowest}
 use Rattle.columns.specs.Columns.{flagged, Columns}
+
+-- the first m rows of the columns, their flags and the arcs are those of a hall and a choice
+pub record Opened-hall (h : Hall) (c : List ℕ) (m : ℕ) (tails heads : List ℕ) (chosen : List Bool) (sets : List ℕ) : Type 0 where
+  pub columns : Columns h (h .n) m tails heads
+  pub flags : (i : ℕ) → 1 ≤ i → i ≤ m → flagged chosen i ≡ member i c
+  pub arcs : Arcs-of h c (at sets)
 
 -- it leads from x if it leads from the first end, and the second is one nearer by the fewest rows D to the target
 unfoldable pub leads-nearer : (D : ℕ → ℕ) → (from to x : ℕ) → Bool

@@ -6,12 +6,11 @@ ghost use mathlib.Core.Option.{some};
 ghost use Prim.Native.Nat.{ℕ, _≤_, _<_};
 ghost use lib.ListN.{length, replicate};
 ghost use Rattle.laws.specs.Lists.{at, in-front};
-ghost use Rattle.hall.specs.Hall.{Hall, member, joins};
-ghost use Rattle.dicuts.specs.Shores.{Ranged};
+ghost use Rattle.hall.specs.Hall.{Hall, joins};
 ghost use Rattle.routes.specs.Route.{Step, signed, all-signed, Shortest-route};
-ghost use Rattle.routes.specs.Reached.{Fewest-to};
-ghost use Rattle.columns.specs.Columns.{Ends, Columns, flagged};
-ghost use Rattle.shortest.specs.Steps.{Noted, First-rows, Guided};
+ghost use Rattle.routes.specs.Reached.{Fewest-to, Arcs-of};
+ghost use Rattle.columns.specs.Columns.{Ends};
+ghost use Rattle.shortest.specs.Steps.{Opened-hall, Noted, First-rows, Guided};
 
 // Writes row k for the junction that it leads from, if none is written there and it leads to one nearer the target.
 fn note(first: &mut [usize; 64], distances: &[u8; 64], k: usize, from: usize, to: usize)
@@ -98,21 +97,13 @@ fn follow<'a>(
     }
 }
 
-// The fewest rows from each junction to the target: the reach step from there over the rows turned round.
-fn distances_to<'a>(
-    n: usize,
-    m: usize,
-    tails: &'a [u8; 256],
-    heads: &'a [u8; 256],
-    chosen: &'a [bool; 256],
-    to: usize,
-) -> [u8; 64]
-    requires { ⌜ Ends n m (now tails) (now heads) × (1 ≤ to) × (to ≤ n) ⌝ }
-    ensures { λ r. ⌜ ((h : Hall) (c : List ℕ) → Columns h n m (now (tails .entry)) (now (heads .entry)) → Ranged h
-        → ((i : ℕ) → 1 ≤ i → i ≤ m → flagged (now (chosen .entry)) i ≡ member i c) → joins h c ≡ true
+// The fewest rows from each junction to the target: the reach step from there over the arcs turned round.
+fn distances_to(arcs: &[u64; 64], to: usize) -> [u8; 64]
+    requires { ⌜ (1 ≤ to) × (to ≤ 64) ⌝ }
+    ensures { λ r. ⌜ ((h : Hall) (c : List ℕ) → Arcs-of h c (at (now (arcs .entry))) → to ≤ h .n → joins h c ≡ true
         → (x : ℕ) → 1 ≤ x → x ≤ h .n → Fewest-to h c x to (some (at r x)) × (at r x < 64)) ⌝ }
 {
-    let back = adjacency::of_rows(n, m, heads, tails, chosen);
+    let back = digraph::turned_round(arcs);
     let mut distances = [0u8; 64];
     digraph::reach(&back, to, &mut distances);
     distances
@@ -120,23 +111,22 @@ fn distances_to<'a>(
 
 // The route from a junction to another, into the first places of the list; how many rows it has.
 pub fn route<'a>(
-    n: usize,
     m: usize,
     tails: &'a [u8; 256],
     heads: &'a [u8; 256],
     chosen: &'a [bool; 256],
+    arcs: &'a [u64; 64],
     from: usize,
     to: usize,
     rows: &mut [i32],
 ) -> usize
-    requires { ⌜ Ends n m (now tails) (now heads) × (1 ≤ from) × (from ≤ n) × (1 ≤ to) × (to ≤ n) × (63 ≤ length (now rows))
-        × ((h : Hall) × (c : List ℕ) × Columns h n m (now tails) (now heads) × Ranged h
-        × ((i : ℕ) → 1 ≤ i → i ≤ m → flagged (now chosen) i ≡ member i c) × (joins h c ≡ true)) ⌝ }
-    ensures { λ r. ⌜ ((h : Hall) (c : List ℕ) → Columns h n m (now (tails .entry)) (now (heads .entry)) → Ranged h
-        → ((i : ℕ) → 1 ≤ i → i ≤ m → flagged (now (chosen .entry)) i ≡ member i c) → joins h c ≡ true
+    requires { ⌜ Ends 64 m (now tails) (now heads) × (1 ≤ from) × (1 ≤ to) × (63 ≤ length (now rows))
+        × ((h : Hall) × (c : List ℕ) × Opened-hall h c m (now tails) (now heads) (now chosen) (now arcs) × (from ≤ h .n) × (to ≤ h .n) × (joins h c ≡ true)) ⌝ }
+    ensures { λ r. ⌜ ((h : Hall) (c : List ℕ) → Opened-hall h c m (now (tails .entry)) (now (heads .entry)) (now (chosen .entry)) (now (arcs .entry))
+        → from ≤ h .n → to ≤ h .n → joins h c ≡ true
         → (ss : List Step) × Shortest-route h c from to ss × (r ≡ length ss) × (now (rows .exit) ≡ in-front (all-signed ss) (now (rows .entry)))) ⌝ }
 {
-    let distances = distances_to(n, m, tails, heads, chosen, to);
+    let distances = distances_to(arcs, to);
     let mut first = [0usize; 64];
     first_rows(m, tails, heads, chosen, &distances, &mut first);
     let distance = digraph::distance(&distances, from) as usize;

@@ -16,7 +16,7 @@ use Rattle.digraph.proofs.expand.Tie as tie
 
 abbrev Inv-loop : tie.InvT-loop
 Inv-loop adjacency layer d distances₀ found₀ rest₀ distances found rest =
-    (rest < 2 ^ 64) × (length distances ≡ 64) × Marking distances₀ distances layer rest d × Spreading (at adjacency) layer found rest
+    (rest < 2 ^ 64) × (length distances ≡ 64) × Marking distances₀ distances layer rest (λ _. d) × Spreading (at adjacency) layer found rest
 
 abbrev μ-loop : tie.MeasureT-loop
 μ-loop adjacency layer d distances₀ found₀ rest₀ distances found rest = rest
@@ -50,13 +50,13 @@ loop-again : tie.Need-loop-again Inv-loop μ-loop
 loop-again c = let l = at-loop c .loop in let a = at-loop c .before .args in (
   omega (arith, clear-less (l .rest) (omega arith)),
   length-set (l .distances) _ (a .d) ∙ l .inv .1,
-  mark-step (a .distances .now) (l .distances) (a .layer) (l .rest) (a .d) (l .inv .1) (omega arith) (l .inv .0) (l .inv .2),
+  mark-step (a .distances .now) (l .distances) (a .layer) (l .rest) (λ _. a .d) (l .inv .1) (omega arith) (l .inv .0) (l .inv .2),
   spread-step (at (a .adjacency .now)) (a .layer) (l .found) (l .rest) (c .arcs .result) (omega arith) (l .inv .0) (c .arcs .ensures) (l .inv .3),
 )
 
 returns : tie.Need-returns Inv-loop μ-loop
 returns c = let l = c .before .loop in let a = c .before .before .args in (
-  mark-end (a .distances .now) (l .distances) (a .layer) (l .rest) (a .d) (l .inv .1) (omega arith) (l .inv .2),
+  mark-end (a .distances .now) (l .distances) (a .layer) (l .rest) (λ _. a .d) (l .inv .1) (omega arith) (l .inv .2),
   spread-end (at (a .adjacency .now)) (a .layer) (l .found) (l .rest) (omega arith) (l .inv .3),
 )
 

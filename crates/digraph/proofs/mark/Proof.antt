@@ -14,7 +14,7 @@ use Rattle.digraph.proofs.mark.Statement.{statement}
 use Rattle.digraph.proofs.mark.Tie as tie
 
 abbrev Inv-loop : tie.InvT-loop
-Inv-loop distances₀ set d rest₀ distances rest = (rest < 2 ^ 64) × (length distances ≡ 64) × Marking distances₀ distances set rest d
+Inv-loop distances₀ set d rest₀ distances rest = (rest < 2 ^ 64) × (length distances ≡ 64) × Marking distances₀ distances set rest (λ _. d)
 
 abbrev μ-loop : tie.MeasureT-loop
 μ-loop distances₀ set d rest₀ distances rest = rest
@@ -38,12 +38,12 @@ loop-again : tie.Need-loop-again Inv-loop μ-loop
 loop-again c = let at-loop = c .before in let l = at-loop .loop in let a = at-loop .before .args in (
   omega (arith, clear-less (l .rest) (omega arith)),
   length-set (l .distances) _ (a .d) ∙ l .inv .1,
-  mark-step (a .distances .now) (l .distances) (a .set) (l .rest) (a .d) (l .inv .1) (omega arith) (l .inv .0) (l .inv .2),
+  mark-step (a .distances .now) (l .distances) (a .set) (l .rest) (λ _. a .d) (l .inv .1) (omega arith) (l .inv .0) (l .inv .2),
 )
 
 returns : tie.Need-returns Inv-loop μ-loop
 returns c = let at-loop = c .before in let l = at-loop .loop in let a = at-loop .before .args in
-    mark-end (a .distances .now) (l .distances) (a .set) (l .rest) (a .d) (l .inv .1) (omega arith) (l .inv .2)
+    mark-end (a .distances .now) (l .distances) (a .set) (l .rest) (λ _. a .d) (l .inv .1) (omega arith) (l .inv .2)
 
 pub mark-spec : {M : Type 1} → statement M
 mark-spec =
