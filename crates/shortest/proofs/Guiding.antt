@@ -4,7 +4,7 @@ use mathlib.Core.Bool.{Bool, true, false, _&&_, not}
 use mathlib.Core.List.{List}
 use mathlib.Core.Logic.{⊎-elim}
 use mathlib.Core.Option.{some}
-use Prim.Native.Nat.{ℕ, suc, _+_, _≤_}
+use Prim.Native.Nat.{ℕ, suc, _+_, _≤_, _<_}
 use native.Mathlib.Omega.{arith}
 use lib.Dec.{eqb}
 use borrow.Author.Tests.{eq-eqb, eqb-true, ne-eqb}
@@ -18,7 +18,7 @@ use Rattle.routes.specs.Nearer.{Nearer, Lowest}
 use Rattle.routes.proofs.Steps.{starts-ahead, starts-back, ends-ahead, ends-back, may-intro, may-low, may-high, may-back}
 use Rattle.routes.proofs.Shortest.{some-nearer}
 use Rattle.columns.specs.Columns.{flagged, Columns}
-use Rattle.shortest.specs.Steps.{leads-nearer, nearer-row, First-rows, step-at, Guided}
+use Rattle.shortest.specs.Steps.{leads-nearer, nearer-row, Lowest-over, Rows-over, step-at, Guided}
 
 -- the test of one direction, from its parts and into them
 leads-intro : (D : ℕ → ℕ) (from to x : ℕ) → from ≡ x → suc (D to) ≡ D x → leads-nearer D from to x ≡ true
@@ -96,16 +96,15 @@ module _ (h : Hall) (n m : ℕ) (ts hs : List ℕ) (fs : List Bool) (c : List �
       (or-cases ahead (flagged fs i && back) t)
 
   module _ (small : n ≤ 64) (rg : Ranged h) (b : ℕ) (D-is : (x : ℕ) → 1 ≤ x → x ≤ h .n → Fewest-to h c x b (some (D x)))
-      (first : List ℕ) (rows : First-rows m ts hs fs D first) where
+      (first : List ℕ) (rows : Rows-over 0 m ts hs fs D first) where
     first-lowest : (x : ℕ) → 1 ≤ x → x ≤ h .n → (x ≡ b → ⊥) → Lowest h c D x (step-at h first x)
-    unfolding step-at
+    unfolding step-at Lowest-over
     first-lowest x low high ne =
         let near = some-nearer h rg c b D D-is x low high ne in
-        let there = rows .rows x low (omega (arith, cols .junctions)) in
-        let over : (t : Step) → Nearer h c D x t → (1 ≤ at first x) × (at first x ≤ t .number) =
-        (λ t n. there .lowest (t .number) (may-low h c t (n .runs)) (omega (arith, may-high h c t (n .runs), cols .rows)) (step-row x t n)) in
-        let some-row = over (near .0) (near .1) .0 in
-        let s = row-step x (at first x) some-row (there .passed some-row .0) (there .passed some-row .1) in
+        let over : (t : Step) → Nearer h c D x t → (0 < at first x) × (at first x ≤ t .number) × (nearer-row ts hs fs D x (at first x) ≡ true) =
+        (λ t n. rows .lowest x low (omega (arith, cols .junctions)) (t .number) (may-low h c t (n .runs)) (omega (arith, may-high h c t (n .runs), cols .rows)) (step-row x t n)) in
+        let found = over (near .0) (near .1) in
+        let s = row-step x (at first x) (found .0) (omega (arith, found .1, may-high h c (near .0) (near .1 .runs), cols .rows)) (found .2) in
         record { nearer = nearer-is h c D x first (s .0) (s .2) (s .1); least = λ t n. over t n .1 }
 
     pub guided : m ≤ 256 → Guided h c b D ts hs first

@@ -3,7 +3,7 @@ use mathlib.Core.Path.{_≡_}
 use mathlib.Core.Bool.{Bool, true, _&&_, _||_, not, cond}
 use mathlib.Core.List.{List}
 use mathlib.Core.Option.{some}
-use Prim.Native.Nat.{ℕ, _+_, _≤_}
+use Prim.Native.Nat.{ℕ, _+_, _≤_, _<_}
 use lib.Dec.{eqb}
 use lib.ListN.{length}
 use Rattle.laws.specs.Lists.{at}
@@ -24,24 +24,23 @@ pub record Opened-hall (h : Hall) (c : List ℕ) (m : ℕ) (tails heads : List �
 unfoldable pub leads-nearer : (D : ℕ → ℕ) → (from to x : ℕ) → Bool
 leads-nearer D from to x = eqb from x && eqb (D to + 1) (D from)
 
--- the table has k at x if it had 0 there and k leads so, and is else as before
+-- the table has k at x if that leads so, and is else as before
 pub record Noted (D : ℕ → ℕ) (k from to : ℕ) (before after : List ℕ) : Type 0 where
   pub size : length after ≡ 64
-  pub entry : (x : ℕ) → 1 ≤ x → x ≤ 64 → at after x ≡ cond (eqb (at before x) 0 && leads-nearer D from to x) k (at before x)
+  pub entry : (x : ℕ) → 1 ≤ x → x ≤ 64 → at after x ≡ cond (leads-nearer D from to x) k (at before x)
 
 -- row i leads from x to a junction one nearer: forward, or backward if it is chosen
 unfoldable pub nearer-row : (tails heads : List ℕ) → (chosen : List Bool) → (D : ℕ → ℕ) → (x i : ℕ) → Bool
 nearer-row ts hs fs D x i = leads-nearer D (at ts i) (at hs i) x || (flagged fs i && leads-nearer D (at hs i) (at ts i) x)
 
--- r is the lowest of the numbers 1 to m that pass, 0 where none does
-pub record Lowest-to (m : ℕ) (passes : ℕ → Bool) (r : ℕ) : Type 0 where
-  pub lowest : (i : ℕ) → 1 ≤ i → i ≤ m → passes i ≡ true → (1 ≤ r) × (r ≤ i)
-  pub passed : 1 ≤ r → (r ≤ m) × (passes r ≡ true)
+-- r is the lowest of the numbers over k, up to m, that pass, where one does
+unfoldable pub Lowest-over : (k m : ℕ) → (passes : ℕ → Bool) → (r : ℕ) → Type 0
+Lowest-over k m p r = (i : ℕ) → k < i → i ≤ m → p i ≡ true → (k < r) × (r ≤ i) × (p r ≡ true)
 
--- the table has for each junction the lowest of the first m rows that leads to one nearer
-pub record First-rows (m : ℕ) (tails heads : List ℕ) (chosen : List Bool) (D : ℕ → ℕ) (first : List ℕ) : Type 0 where
+-- the table has for each junction the lowest row over k that leads to one nearer
+pub record Rows-over (k m : ℕ) (tails heads : List ℕ) (chosen : List Bool) (D : ℕ → ℕ) (first : List ℕ) : Type 0 where
   pub size : length first ≡ 64
-  pub rows : (x : ℕ) → 1 ≤ x → x ≤ 64 → Lowest-to m (nearer-row tails heads chosen D x) (at first x)
+  pub lowest : (x : ℕ) → 1 ≤ x → x ≤ 64 → Lowest-over k m (nearer-row tails heads chosen D x) (at first x)
 
 -- the step over the row at x, forward where the row leads from x
 unfoldable pub step-at : Hall → (first : List ℕ) → (x : ℕ) → Step

@@ -4,28 +4,27 @@ ghost use mathlib.Core.Bool.{true, cond};
 ghost use mathlib.Core.List.{List};
 ghost use mathlib.Core.Option.{some};
 ghost use Prim.Native.Nat.{ℕ, _≤_, _<_};
-ghost use lib.ListN.{length, replicate};
+ghost use lib.ListN.{length};
 ghost use Rattle.laws.specs.Lists.{at, in-front};
 ghost use Rattle.hall.specs.Hall.{Hall, joins};
 ghost use Rattle.routes.specs.Route.{Step, signed, all-signed, Shortest-route};
 ghost use Rattle.routes.specs.Reached.{Fewest-to, Arcs-of};
 ghost use Rattle.columns.specs.Columns.{Ends};
-ghost use Rattle.shortest.specs.Steps.{Opened-hall, Noted, First-rows, Guided};
+ghost use Rattle.shortest.specs.Steps.{Opened-hall, Noted, Rows-over, Guided};
 
-// Writes row k for the junction that it leads from, if none is written there and it leads to one nearer the target.
+// Writes row k for the junction that it leads from, if it leads to one nearer the target.
 fn note(first: &mut [usize; 64], distances: &[u8; 64], k: usize, from: usize, to: usize)
     requires { ⌜ (length (now first) ≡ 64) × (1 ≤ from) × (from ≤ 64) × (1 ≤ to) × (to ≤ 64) ⌝ }
     ensures { λ _. ⌜ Noted (at (now (distances .entry))) k from to (now (first .entry)) (now (first .exit)) ⌝ }
 {
     let near = digraph::distance(distances, to) as usize;
     let far = digraph::distance(distances, from) as usize;
-    let noted = first[from - 1];
-    if (noted == 0) & (near + 1 == far) {
+    if near + 1 == far {
         first[from - 1] = k;
     }
 }
 
-// For each junction the lowest row that leads from it to one nearer the target, 0 where none does.
+// For each junction the lowest row that leads from it to one nearer the target, where there is one: the rows are noted from the last to the first.
 fn first_rows<'a>(
     m: usize,
     tails: &'a [u8; 256],
@@ -34,18 +33,19 @@ fn first_rows<'a>(
     distances: &'a [u8; 64],
     first: &mut [usize; 64],
 )
-    requires { ⌜ Ends 64 m (now tails) (now heads) × (now first ≡ replicate 64 0) ⌝ }
-    ensures { λ _. ⌜ First-rows m (now (tails .entry)) (now (heads .entry)) (now (chosen .entry)) (at (now (distances .entry))) (now (first .exit)) ⌝ }
+    requires { ⌜ Ends 64 m (now tails) (now heads) × (length (now first) ≡ 64) ⌝ }
+    ensures { λ _. ⌜ Rows-over 0 m (now (tails .entry)) (now (heads .entry)) (now (chosen .entry)) (at (now (distances .entry))) (now (first .exit)) ⌝ }
 {
-    let mut k: usize = 0;
-    while k < m {
-        let tail = tails[k] as usize;
-        let head = heads[k] as usize;
-        note(first, distances, k + 1, tail, head);
-        if chosen[k] {
-            note(first, distances, k + 1, head, tail);
+    let mut left = m;
+    while left > 0 {
+        let place = left - 1;
+        let tail = tails[place] as usize;
+        let head = heads[place] as usize;
+        note(first, distances, place + 1, tail, head);
+        if chosen[place] {
+            note(first, distances, place + 1, head, tail);
         }
-        k += 1;
+        left -= 1;
     }
 }
 
@@ -127,7 +127,7 @@ pub fn route<'a>(
         → (ss : List Step) × Shortest-route h c from to ss × (r ≡ length ss) × (now (rows .exit) ≡ in-front (all-signed ss) (now (rows .entry)))) ⌝ }
 {
     let distances = distances_to(arcs, to);
-    let mut first = [0usize; 64];
+    let mut first = [1usize; 64];
     first_rows(m, tails, heads, chosen, &distances, &mut first);
     let distance = digraph::distance(&distances, from) as usize;
     follow(tails, heads, &first, from as u8, distance, rows);
