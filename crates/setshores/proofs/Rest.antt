@@ -1,6 +1,7 @@
 -- Pieces taken out of a set one by one, each by its lowest junction. Assumes nothing.
 use mathlib.Core.Path.{_≡_, refl, sym, ap, _∙_}
 use mathlib.Core.Bool.{Bool, true, false, _&&_, not, cond}
+use mathlib.Core.List.{List}
 use mathlib.Core.Logic.{_⊎_, ⊎-elim}
 use Prim.Native.Nat.{ℕ, suc, _+_, _-_, _^_, _≤_, _<_}
 use native.Mathlib.Omega.{arith}
@@ -18,8 +19,10 @@ use Rattle.junctions.proofs.Bounds.{junction-le}
 use Rattle.junctions.proofs.Members.{full-in, within-le}
 use Rattle.junctions.proofs.Sets.{none-holds, less-holds, lowest-is, sets-ext, full-lt}
 use Rattle.digraph.specs.Reach.{Reach}
+use Rattle.digraph.specs.Search.{Reached}
 use Rattle.digraph.proofs.Closure.{closure-lt, closure-reach, reach-unique, reach-narrow, reach-narrow-lt}
 use Rattle.digraph.proofs.Same.{reach-same}
+use Rattle.digraph.proofs.Reaching.{reached-reach}
 use Rattle.certificates.specs.Pieces.{Mutual, inside, piece, leads, over-pieces}
 use Rattle.certificates.specs.Cuts.{outside}
 use Rattle.certificates.proofs.Pieces.{piece-self, piece-in, piece-same, piece-meet, subset-lt}
@@ -48,6 +51,14 @@ reach-piece n out to w k r small low l same reach =
     rw e
     (reach-unique n (inside w out) (2 ^ k) r _ (reach-narrow-lt n (inside w out) (2 ^ k) r small few ranged there) (closure-lt n (inside w out) (2 ^ k) few)
     (reach-narrow n (inside w out) (2 ^ k) r small few ranged there) (closure-reach n (inside w out) (2 ^ k) few ranged))
+
+-- the reach step from the lowest junction that is left
+pub lowest-reach : (to : ℕ → ℕ) (left found : ℕ) (before after : List ℕ) → 0 < left → left < 2 ^ 64 → found < 2 ^ 64
+    → Reached 64 to (trailingZeros 64 left + 1) found before after → Reach 64 to (2 ^ trailingZeros 64 left) found
+lowest-reach to left found before after some fits small reached =
+    let k = trailingZeros 64 left in
+    let e : k + 1 - 1 ≡ k = omega arith in
+    rw e at (reached-reach 64 to (k + 1) found before after (omega arith) (lowest-is left some fits .to-last) reached small)
 
 pub rest-all : (n : ℕ) (out : ℕ → ℕ) (w : ℕ) → w < 2 ^ n → Rest n out w w
 rest-all n out w low = record { in-it = λ j l t. t; whole = λ j b lj lb t e. piece-in n out w low j lj t b lb e }

@@ -1,7 +1,7 @@
 -- `add_components` adds the weight to what lies outside each component. The invariant: the junctions that are left make a set of whole components, and the shores of those components are what is left to add. The measure is the set of junctions that are left, as a number. Assumes nothing.
 use mathlib.Core.Path.{_≡_, refl}
 use mathlib.Core.List.{List}
-use Prim.Native.Nat.{ℕ, _+_, _-_, _^_, _<_}
+use Prim.Native.Nat.{ℕ, _-_, _^_, _<_}
 use native.Mathlib.Omega.{arith}
 use lib.Bits.{bitAnd, bitXor}
 use lib.Count.{trailingZeros, trailing-le}
@@ -9,9 +9,9 @@ use lib.ListN.{length}
 use Rattle.laws.specs.Lists.{at}
 use Rattle.junctions.proofs.Bits.{trailing-lt}
 use Rattle.digraph.specs.Reach.{Reach}
-use Rattle.digraph.proofs.Reaching.{reached-reach}
 use Rattle.shorelist.specs.Listed.{Fits, Added, alone}
 use Rattle.setshores.specs.Shores.{Components}
+use Rattle.setshores.proofs.Rest.{lowest-reach}
 use Rattle.setshores.proofs.Components.{components-start, components-end, components-fits, components-more, components-less}
 use borrow.Author.Needs.{needs}
 use Rattle.setshores.proofs.add_components.Statement.{statement}
@@ -50,13 +50,8 @@ module _ (c : tie.After-reach Inv-loop μ-loop) where
   some : 0 < left
   some = omega arith
 
-  abbrev place : ℕ
-  place = trailingZeros 64 left
-
-  reached : Reach 64 (at (l .before .within .result)) (2 ^ place) found
-  reached =
-      let e : place + 1 - 1 ≡ place = omega arith in
-      rw e at (reached-reach 64 (at (l .before .within .result)) (place + 1) found _ _ (omega arith) (omega (arith, trailing-lt 64 left some (l .loop .inv .0 .fits))) (c .reach .ensures) (omega (arith, c .reach .ok)))
+  reached : Reach 64 (at (l .before .within .result)) (2 ^ trailingZeros 64 left) found
+  reached = lowest-reach (at (l .before .within .result)) left found _ _ some (l .loop .inv .0 .fits) (omega (arith, c .reach .ok)) (c .reach .ensures)
 
   fits : Fits (l .loop .filled) (l .loop .shores) (l .loop .weights) (alone (bitXor all (bitAnd all found)) (s .args .weight))
   fits = components-fits (s .args .class) (s .args .weight) (at-full l .full .ensures) (s .pre .0) (l .loop .inv .0) (s .pre .2) some (l .before .within .ensures .1) reached (s .pre .3)
