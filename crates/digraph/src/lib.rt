@@ -19,7 +19,7 @@ pub fn arcs(adjacency: &[u64; 64], j: usize) -> u64
 }
 
 // Writes d for each junction of the set.
-pub fn mark(distances: &mut [u8; 64], set: u64, d: u8)
+fn mark(distances: &mut [u8; 64], set: u64, d: u8)
     requires { ⌜ length (now distances) ≡ 64 ⌝ }
     ensures { λ _. ⌜ Marked (now (distances .entry)) (now (distances .exit)) set (λ (_ : ℕ). d) ⌝ }
 {
@@ -32,7 +32,7 @@ pub fn mark(distances: &mut [u8; 64], set: u64, d: u8)
 }
 
 // Writes d for each junction of the layer, and gives the junctions that arcs from it lead to.
-pub fn expand(adjacency: &[u64; 64], layer: u64, d: u8, distances: &mut [u8; 64]) -> u64
+fn expand(adjacency: &[u64; 64], layer: u64, d: u8, distances: &mut [u8; 64]) -> u64
     requires { ⌜ length (now distances) ≡ 64 ⌝ }
     ensures { λ r. ⌜ Marked (now (distances .entry)) (now (distances .exit)) layer (λ (_ : ℕ). d) × ((y : ℕ) → holds r y ≡ arc-from 64 (at (now (adjacency .entry))) layer y) ⌝ }
 {
