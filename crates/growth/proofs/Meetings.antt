@@ -11,7 +11,7 @@ use Rattle.laws.proofs.Connectives.{or-false-i}
 use Rattle.junctions.specs.Sets.{holds, Within}
 use Rattle.junctions.proofs.Sets.{and-holds, or-holds, less-holds, none-holds}
 use Rattle.growth.specs.Growth.{Leads, apart, Search-part, Meeting}
-use Rattle.growth.proofs.Searches.{Beside, leads-more}
+use Rattle.growth.proofs.Searches.{Held-beside, leads-more}
 
 -- a set without another
 abbrev pub less : (a b : ℕ) → ℕ
@@ -54,7 +54,7 @@ head-free out set heads other rest h low in-rest outside k = outside h low (k .r
 
 -- the search from head h of the rest
 module _ (out : ℕ → ℕ) (set heads other rest h held : ℕ) (low : 1 ≤ h) (in-rest : holds rest h ≡ true)
-    (k : Keeping out set heads other rest) (s : Beside out set other h held) where
+    (k : Keeping out set heads other rest) (s : Held-beside out set other h held) where
   in-heads : holds heads h ≡ true
   unfolding Within
   in-heads = k .rest-in h low in-rest

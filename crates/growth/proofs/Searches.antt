@@ -21,7 +21,7 @@ use Rattle.growth.specs.Growth.{Leads}
 
 -- A SEARCH from h BESIDE THE SET: what it holds lies on from h over junctions held that are none of the others;
 -- where it holds none of the others it is at its end
-pub record Beside (out : ℕ → ℕ) (set other h held : ℕ) : Type 0 where
+pub record Held-beside (out : ℕ → ℕ) (set other h held : ℕ) : Type 0 where
   pub free : (y : ℕ) → 1 ≤ y → holds held y ≡ true → holds set y ≡ false
   pub led : (y : ℕ) → 1 ≤ y → holds held y ≡ true → Leads out (λ x. holds held x && not (holds other x)) h y
   pub head : ((y : ℕ) → 1 ≤ y → holds other y ≡ true → holds held y ≡ false) → holds held h ≡ true
@@ -80,7 +80,7 @@ module _ (out : ℕ → ℕ) (set other h held : ℕ) (before after : List ℕ) 
   all-reached unmet =
       reached-reach 64 round h held before after low high (searched-reached 64 out h set other held before after s unmet) fits
 
-  pub searched-beside : Beside out set other h held
+  pub searched-beside : Held-beside out set other h held
   unfolding Closed Within Walk
   searched-beside =
       record {

@@ -15,7 +15,7 @@ use Rattle.hall.specs.Plan.{earlier}
 use Rattle.dicuts.specs.Shores.{Ranged}
 use Rattle.routes.specs.Route.{Step, ends, runs-to, numbers, Shortest-route}
 use Rattle.routes.specs.Reached.{Fewest-to}
-use Rattle.routes.specs.Nearer.{Nearer, Lowest}
+use Rattle.routes.specs.Nearer.{Nearer, Lowest-step}
 use Rattle.routes.proofs.Steps.{starts-ahead, ends-back, runs-more, runs-first, ends-inside}
 
 module _ (h : Hall) (c : List ℕ) (D : ℕ → ℕ) (x : ℕ) where
@@ -78,7 +78,7 @@ module _ (h : Hall) (rg : Ranged h) (c : List ℕ) (b : ℕ) (D : ℕ → ℕ) (
       begins (s ∷ ss) t e = (s, first-nearer x l m s ss t e)
 
   -- the lowest step to a junction one nearer, and the first fewest route from there
-  module _ (a : ℕ) (low : 1 ≤ a) (high : a ≤ h .n) (s : Step) (lowest : Lowest h c D a s) (ss : List Step) (rest : Shortest-route h c (ends h s) b ss) where
+  module _ (a : ℕ) (low : 1 ≤ a) (high : a ≤ h .n) (s : Step) (lowest : Lowest-step h c D a s) (ss : List Step) (rest : Shortest-route h c (ends h s) b ss) where
     more-length : length (s ∷ ss) ≡ D a
     more-length =
         let near = lowest .nearer in

@@ -13,6 +13,6 @@ pub record Nearer (h : Hall) (c : List ℕ) (D : ℕ → ℕ) (x : ℕ) (s : Ste
   pub closer : suc (D (ends h s)) ≡ D x
 
 -- such a step whose row is the lowest
-pub record Lowest (h : Hall) (c : List ℕ) (D : ℕ → ℕ) (x : ℕ) (s : Step) : Type 0 where
+pub record Lowest-step (h : Hall) (c : List ℕ) (D : ℕ → ℕ) (x : ℕ) (s : Step) : Type 0 where
   pub nearer : Nearer h c D x s
   pub least : (t : Step) → Nearer h c D x t → s .number ≤ t .number

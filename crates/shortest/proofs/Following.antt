@@ -13,7 +13,7 @@ use Rattle.laws.proofs.Lists.{front-more}
 use Rattle.hall.specs.Hall.{Hall, row, count}
 use Rattle.routes.specs.Route.{Step, ends, runs-to, Shortest-route, signed, all-signed}
 use Rattle.routes.specs.Reached.{Fewest-to}
-use Rattle.routes.specs.Nearer.{Lowest}
+use Rattle.routes.specs.Nearer.{Lowest-step}
 use Rattle.routes.proofs.Steps.{may-low, may-high, ends-inside}
 use Rattle.routes.proofs.Shortest.{route-here, route-length, route-more}
 use Rattle.shortest.specs.Steps.{step-at, Guided}
@@ -69,7 +69,7 @@ module _ (h : Hall) (c : List ℕ) (b : ℕ) (D : ℕ → ℕ) (ts hs first : Li
         abbrev s : Step
         s = step-at h first x
 
-        pub lowest : Lowest h c D x s
+        pub lowest : Lowest-step h c D x s
         lowest = g .lowest x (on .low) (on .high) (some-left x (on .low) (on .high) (omega (arith, more, on .left)))
 
         pub row-low : 1 ≤ at first x

@@ -14,7 +14,7 @@ use Rattle.hall.specs.Hall.{Hall, row, member}
 use Rattle.dicuts.specs.Shores.{Ranged}
 use Rattle.routes.specs.Route.{Step}
 use Rattle.routes.specs.Reached.{Fewest-to}
-use Rattle.routes.specs.Nearer.{Nearer, Lowest}
+use Rattle.routes.specs.Nearer.{Nearer, Lowest-step}
 use Rattle.routes.proofs.Steps.{starts-ahead, starts-back, ends-ahead, ends-back, may-intro, may-low, may-high, may-back}
 use Rattle.routes.proofs.Shortest.{some-nearer}
 use Rattle.columns.specs.Columns.{flagged, Columns}
@@ -97,7 +97,7 @@ module _ (h : Hall) (n m : ℕ) (ts hs : List ℕ) (fs : List Bool) (c : List �
 
   module _ (small : n ≤ 64) (rg : Ranged h) (b : ℕ) (D-is : (x : ℕ) → 1 ≤ x → x ≤ h .n → Fewest-to h c x b (some (D x)))
       (first : List ℕ) (rows : Rows-over 0 m ts hs fs D first) where
-    first-lowest : (x : ℕ) → 1 ≤ x → x ≤ h .n → (x ≡ b → ⊥) → Lowest h c D x (step-at h first x)
+    first-lowest : (x : ℕ) → 1 ≤ x → x ≤ h .n → (x ≡ b → ⊥) → Lowest-step h c D x (step-at h first x)
     unfolding step-at Lowest-over
     first-lowest x low high ne =
         let near = some-nearer h rg c b D D-is x low high ne in

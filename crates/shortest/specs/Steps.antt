@@ -11,7 +11,7 @@ use Rattle.hall.specs.Hall.{Hall, row, count, member}
 use Rattle.dicuts.specs.Shores.{Ranged}
 use Rattle.routes.specs.Route.{Step}
 use Rattle.routes.specs.Reached.{Fewest-to, Arcs-of}
-use Rattle.routes.specs.Nearer.{Lowest}
+use Rattle.routes.specs.Nearer.{Lowest-step}
 use Rattle.columns.specs.Columns.{flagged, Columns}
 
 -- the first m rows of the columns, their flags and the arcs are those of a hall and a choice
@@ -53,4 +53,4 @@ pub record Guided (h : Hall) (c : List ℕ) (b : ℕ) (D : ℕ → ℕ) (tails h
   pub columns : Columns h (h .n) (count h) tails heads
   pub ranged : Ranged h
   pub fewest : (x : ℕ) → 1 ≤ x → x ≤ h .n → Fewest-to h c x b (some (D x))
-  pub lowest : (x : ℕ) → 1 ≤ x → x ≤ h .n → (x ≡ b → ⊥) → Lowest h c D x (step-at h first x)
+  pub lowest : (x : ℕ) → 1 ≤ x → x ≤ h .n → (x ≡ b → ⊥) → Lowest-step h c D x (step-at h first x)

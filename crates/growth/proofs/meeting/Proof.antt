@@ -10,7 +10,7 @@ use borrow.Author.Needs.{needs}
 use Rattle.laws.specs.Lists.{at}
 use Rattle.junctions.proofs.Sets.{lowest-is}
 use Rattle.junctions.proofs.Words.{clear-holds, clear-less}
-use Rattle.growth.proofs.Searches.{Beside, searched-beside}
+use Rattle.growth.proofs.Searches.{Held-beside, searched-beside}
 use Rattle.growth.proofs.Meetings.{Keeping, keeping-start, head-free, keeping-met, keeping-step, keeping-end}
 use Rattle.growth.proofs.meeting.Statement.{statement}
 use Rattle.growth.proofs.meeting.Tie as tie
@@ -27,7 +27,7 @@ at-loop c = c .before .before .before
 
 -- a turn's search is one beside the set
 beside : (c : tie.After-reach-until Inv-loop μ-loop) → let l = at-loop c .loop in let a = at-loop c .before .args in
-    Beside (at (a .arcs .now)) (a .set) (l .other) (trailingZeros 64 (l .rest) + 1) (c .reach-until .result)
+    Held-beside (at (a .arcs .now)) (a .set) (l .other) (trailingZeros 64 (l .rest) + 1) (c .reach-until .result)
 beside c = let l = at-loop c .loop in let s = at-loop c .before in let a = s .args in
     let low = lowest-is (l .rest) (omega arith) (l .inv .0) in
     let h = trailingZeros 64 (l .rest) + 1 in
