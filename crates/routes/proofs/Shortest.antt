@@ -1,14 +1,14 @@
 -- The lowest step to a junction one nearer begins the first route with the fewest rows. Assumes nothing.
 -- The trick: a step to a junction one nearer is no loop, so its row and where it starts fix its direction.
 use mathlib.Core.Path.{_≡_, refl, sym, ap, ap₂, _∙_}
-use mathlib.Core.Bool.{Bool, true, false, _&&_}
+use mathlib.Core.Bool.{Bool, true, _&&_, not}
 use mathlib.Core.List.{List, [], _∷_}
 use mathlib.Core.Option.{some}
 use Prim.Native.Nat.{ℕ, _≤_}
 use native.Mathlib.Omega.{arith}
 use lib.Dec.{ltb, eqb}
 use lib.ListN.{length}
-use borrow.Author.Tests.{eq-eqb, eqb-true, ltb-false}
+use borrow.Author.Tests.{eq-eqb, ne-eqb, eqb-true, ltb-false}
 use Rattle.laws.proofs.Booleans.{by-bool, and-i, or-l, or-r}
 use Rattle.hall.specs.Hall.{Hall, row}
 use Rattle.hall.specs.Plan.{earlier}
@@ -19,20 +19,17 @@ use Rattle.routes.specs.Nearer.{Nearer, Lowest-step}
 use Rattle.routes.proofs.Steps.{starts-ahead, ends-back, runs-more, runs-first, ends-inside}
 
 module _ (h : Hall) (c : List ℕ) (D : ℕ → ℕ) (x : ℕ) where
-  -- no row is run both ways to a junction one nearer
-  one-way : (s t : Step) → Nearer h c D x s → Nearer h c D x t → s .number ≡ t .number → s .back ≡ true → t .back ≡ false → ⊥
-  one-way s t p q e b f =
-      let loop : ends h s ≡ x = ends-back h s b ∙ ap (λ (i : ℕ). row h i .from) e ∙ sym (starts-ahead h t f) ∙ q .here in
-      omega (arith, p .closer, ap D loop)
+  -- a step to a junction one nearer is no loop: where it starts tells its direction
+  pub direction : (s : Step) → Nearer h c D x s → s .back ≡ not (eqb (row h (s .number) .from) x)
+  direction s near =
+      let from = row h (s .number) .from in
+      by-bool (s .back)
+      (λ b. b ∙ ap not (sym (ne-eqb from x (λ e. omega (arith, near .closer, ap D (ends-back h s b ∙ e))))))
+      (λ b. b ∙ ap not (sym (eq-eqb from x (sym (starts-ahead h s b) ∙ near .here))))
 
   nearer-same : (s t : Step) → Nearer h c D x s → Nearer h c D x t → s .number ≡ t .number → s ≡ t
   nearer-same s t p q e =
-      by-bool (s .back)
-      (λ b. by-bool (t .back) (λ d. same (b ∙ sym d)) (λ d. absurd (one-way s t p q e b d)))
-      (λ b. by-bool (t .back) (λ d. absurd (one-way t s q p (sym e) d b)) (λ d. same (b ∙ sym d)))
-    where
-      same : s .back ≡ t .back → s ≡ t
-      same b = ap₂ (λ (i : ℕ) (d : Bool). record { number = i; back = d }) e b
+      ap₂ (λ (i : ℕ) (d : Bool). record { number = i; back = d }) e (direction s p ∙ ap (λ (i : ℕ). not (eqb (row h i .from) x)) e ∙ sym (direction t q))
 
 pub route-here : (h : Hall) (c : List ℕ) (b : ℕ) → Shortest-route h c b b []
 unfolding runs-to

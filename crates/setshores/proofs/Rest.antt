@@ -1,6 +1,6 @@
 -- Pieces taken out of a set one by one, each by its lowest junction. Assumes nothing.
-use mathlib.Core.Path.{_≡_, refl, sym, ap, _∙_}
-use mathlib.Core.Bool.{Bool, true, false, _&&_, not, cond}
+use mathlib.Core.Path.{_≡_, sym, ap, _∙_}
+use mathlib.Core.Bool.{Bool, true, false, _&&_, not, cond, and-true}
 use mathlib.Core.List.{List}
 use mathlib.Core.Logic.{_⊎_, ⊎-elim}
 use Prim.Native.Nat.{ℕ, suc, _+_, _-_, _^_, _≤_, _<_}
@@ -111,10 +111,6 @@ module _ (n : ℕ) (out : ℕ → ℕ) (arcs : Mutual n out) (w left : ℕ) (low
   after-has : (j : ℕ) → 1 ≤ j → holds taken j ≡ false → holds after j ≡ holds left j
   unfolding taken
   after-has j l t = after-is j l ∙ ap (λ (b : Bool). holds left j && not b) t ∙ and-true (holds left j)
-    where
-      and-true : (b : Bool) → (b && true) ≡ b
-      and-true true = refl
-      and-true false = refl
 
   -- no other junction leads the piece that is taken out
   leads-alone : (i : ℕ) → (i ≡ k → ⊥) → leads n out w i ≡ true → holds taken (suc i) ≡ false

@@ -7,7 +7,7 @@ use mathlib.Core.Option.{some}
 use Prim.Native.Nat.{ℕ, suc, _+_, _≤_, _<_}
 use native.Mathlib.Omega.{arith}
 use lib.Dec.{eqb}
-use borrow.Author.Tests.{eq-eqb, eqb-true, ne-eqb}
+use borrow.Author.Tests.{eq-eqb, eqb-true}
 use Rattle.laws.specs.Lists.{at}
 use Rattle.laws.proofs.Booleans.{by-bool, clash, and-i, and-l, and-r, or-cases, or-l, or-r}
 use Rattle.hall.specs.Hall.{Hall, row, member}
@@ -16,7 +16,7 @@ use Rattle.routes.specs.Route.{Step}
 use Rattle.routes.specs.Reached.{Fewest-to}
 use Rattle.routes.specs.Nearer.{Nearer, Lowest-step}
 use Rattle.routes.proofs.Steps.{starts-ahead, starts-back, ends-ahead, ends-back, may-intro, may-low, may-high, may-back}
-use Rattle.routes.proofs.Shortest.{some-nearer}
+use Rattle.routes.proofs.Shortest.{direction, some-nearer}
 use Rattle.columns.specs.Columns.{flagged, Columns}
 use Rattle.shortest.specs.Steps.{leads-nearer, nearer-row, Lowest-over, Rows-over, step-at, Guided}
 
@@ -32,14 +32,7 @@ leads-parts D from to x t =
     let e = eqb-true from x (and-l (eqb from x) (eqb (D to + 1) (D from)) t) in
     (e, omega (arith, eqb-true (D to + 1) (D from) (and-r (eqb from x) (eqb (D to + 1) (D from)) t), ap D e))
 
--- a step to a junction one nearer is no loop: where it starts tells its direction
-direction : (h : Hall) (c : List ℕ) (D : ℕ → ℕ) (x : ℕ) (s : Step) → Nearer h c D x s → s .back ≡ not (eqb (row h (s .number) .from) x)
-direction h c D x s near =
-    let from = row h (s .number) .from in
-    by-bool (s .back)
-    (λ b. b ∙ ap not (sym (ne-eqb from x (λ e. omega (arith, near .closer, ap D (ends-back h s b ∙ e))))))
-    (λ b. b ∙ ap not (sym (eq-eqb from x (sym (starts-ahead h s b) ∙ near .here))))
-
+-- a step by its row in the table
 nearer-is : (h : Hall) (c : List ℕ) (D : ℕ → ℕ) (x : ℕ) (first : List ℕ) (s : Step) → Nearer h c D x s → s .number ≡ at first x → Nearer h c D x (step-at h first x)
 unfolding step-at
 nearer-is h c D x first s near e =
