@@ -1,4 +1,5 @@
 // What a call answers of a choice: its refusal, or what it found. The numbers of document 01 are in specs/Answers.antt.
+#![tactic(auto)]
 ghost use Rattle.std.specs.Prelude.{◌≡◌};
 ghost use Rattle.choice.specs.Short.{if_some};
 ghost use Rattle.answers.specs.Answers.{outcome_of, set_of, missing, refused, surrounded};
@@ -7,7 +8,7 @@ use junctions::Junctions;
 use refusals::Kind;
 
 // What a call found; nothing where it was refused.
-#[derive(Drop)]
+#[derive(Clone, Copy)]
 pub enum Finding {
     Nothing,
     Joins,
@@ -15,7 +16,7 @@ pub enum Finding {
     Around(Junctions),
 }
 
-#[derive(Drop)]
+#[derive(Clone, Copy)]
 pub struct Told {
     pub refusal: Kind,
     pub found: Finding,

@@ -1,4 +1,5 @@
 // Checks choices: for each pair of arguments, a hall file and its rows such as 1,3 (or - for none), prints what the check finds.
+#![tactic(auto)]
 ghost use Rattle.std.specs.Prelude.{◌≤◌};
 
 use libc::STDOUT_FILENO;

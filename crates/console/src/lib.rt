@@ -1,4 +1,5 @@
 // What the programs share: numbers from text, and the lines that they print.
+#![tactic(auto)]
 ghost use Rattle.std.specs.Prelude.{◌≤◌};
 
 use answers::{Finding, Told};
@@ -6,7 +7,7 @@ use junctions::Junctions;
 use libc::STDOUT_FILENO;
 
 // Numbers as they are read from text: those that are done, and the digits of the next.
-#[derive(Drop)]
+#[derive(Clone, Copy)]
 pub struct Numbers {
     pub list: [u32; 257],
     pub count: usize,

@@ -1,17 +1,18 @@
 // Cuts in a lent list: a junction set and a weight together.
+#![tactic(auto)]
 ghost use Rattle.std.specs.Prelude.{◌≡◌, ◌≤◌, ◌<◌, ◌++◌, length, drop};
 ghost use Rattle.cutlist.specs.Cuts.{listed_cut, cuts_from};
 
 use junctions::Junctions;
 
-#[derive(Drop)]
+#[derive(Clone, Copy)]
 pub struct Cut {
     pub shore: Junctions,
     pub weight: u32,
 }
 
 // Cuts as a list of shores and a list of weights.
-#[derive(Drop)]
+#[derive(Clone, Copy)]
 pub struct Lists {
     pub shores: [u64; 125],
     pub weights: [u32; 125],

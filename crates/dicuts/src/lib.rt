@@ -1,1 +1,2 @@
 // Shores, how often rows enter them, joining, tight shores: the combinatorics of directed cuts. No code.
+#![tactic(auto)]

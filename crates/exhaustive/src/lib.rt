@@ -1,4 +1,5 @@
 // Which choices of a small hall join, and whether one is the first that does, by trying every choice against every directed cut.
+#![tactic(auto)]
 pub mod sets;
 
 ghost use Rattle.std.specs.Prelude.{◌+◌, ◌≤◌, ◌<◌};
@@ -6,7 +7,7 @@ ghost use Rattle.std.specs.Prelude.{◌+◌, ◌≤◌, ◌<◌};
 use sets::Cut;
 use smallhalls::Small;
 
-#[derive(Drop)]
+#[derive(Clone, Copy)]
 struct Cuts {
     count: usize,
     rows: [u64; 64],

@@ -4,7 +4,7 @@ ghost use Rattle.std.specs.Prelude.{◌≤◌, ◌<◌};
 use smallhalls::Small;
 
 // The rows that enter a set; not directed where a row leaves it.
-#[derive(Drop)]
+#[derive(Clone, Copy)]
 pub struct Cut {
     pub directed: bool,
     pub rows: u64,

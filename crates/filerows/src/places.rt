@@ -6,7 +6,7 @@ ghost use Rattle.filerows.specs.Steps.{lane_row, RowAhead, SettledPlace, NextRow
 use crate::{blocks, little};
 
 // Where the next row stands, how many rows its block has left, and the block after it.
-#[derive(Drop)]
+#[derive(Clone, Copy)]
 pub struct Place {
     pub at: usize,
     pub left: usize,
@@ -14,7 +14,7 @@ pub struct Place {
 }
 
 // A row as the file has it; a fixed one has no price, and 0 stands there.
-#[derive(Drop)]
+#[derive(Clone, Copy)]
 pub struct Lane {
     pub from: u64,
     pub to: u64,
@@ -28,7 +28,7 @@ impl Lane {
 }
 
 // A row, and the place after it.
-#[derive(Drop)]
+#[derive(Clone, Copy)]
 pub struct Step {
     pub lane: Lane,
     pub after: Place,

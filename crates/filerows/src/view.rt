@@ -4,7 +4,7 @@ ghost use Rattle.filerows.specs.Steps.{RowAhead, NextRow};
 use crate::places;
 use crate::places::{Place, Step};
 
-#[derive(Drop)]
+#[derive(Clone, Copy)]
 pub struct Rows<'a> {
     pub file: &'a [u8],
     pub place: Place,

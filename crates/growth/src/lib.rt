@@ -1,5 +1,6 @@
 // What a junction reaches even without any one frail arc, as a set that grows: by solid arcs, by second arcs, by sets that
 // are known, and by junctions in which two searches from it meet.
+#![tactic(auto)]
 ghost use Rattle.std.specs.Prelude.{◌≡◌, true, false, ℕ, ◌≤◌};
 ghost use Rattle.std.specs.Int.Bits.{bit_or};
 ghost use Rattle.laws.specs.Lists.{at};
@@ -8,7 +9,7 @@ ghost use Rattle.growth.specs.Robust.{RobustSet};
 ghost use Rattle.growth.specs.Growth.{Known, Growing, Meeting};
 
 // A set, and the junctions that arcs from it lead to.
-#[derive(Drop)]
+#[derive(Clone, Copy)]
 struct Grown {
     set: u64,
     once: u64,

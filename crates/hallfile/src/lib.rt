@@ -1,5 +1,6 @@
 // Reading a hall from the bytes of its file: refusals 2 to 9 and 15 in their fixed order, and the hall as columns.
 // It stands on the rows of `filerows`, what a hall's rows reach (`adjacency`, `digraph`, `choice`) and the kinds of `refusals`.
+#![tactic(auto)]
 ghost use Rattle.std.specs.Prelude.{◌≡◌, ◌&&◌, cond, ◌+◌, ◌*◌, leb, length};
 ghost use Rattle.hall.specs.File.{pairs_good, hall_in, refusal, hall_refusal};
 ghost use Rattle.refusals.specs.Kinds.{refusal_of};
@@ -14,7 +15,7 @@ mod openable;
 mod rows;
 
 // A hall as columns: row i stands at place i - 1, unused places are zero, and not marked as fixed.
-#[derive(Drop)]
+#[derive(Clone, Copy)]
 pub struct HallRecord {
     pub n: usize,
     pub count: usize,
@@ -52,7 +53,7 @@ impl HallRecord {
 }
 
 // What a reader replies: why it turns the file back, or the hall.
-#[derive(Drop)]
+#[derive(Clone, Copy)]
 pub struct Reading {
     pub refusal: Kind,
     pub hall: HallRecord,

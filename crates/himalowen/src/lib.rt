@@ -1,4 +1,5 @@
 // The exported calls, as include/himalowen.h declares them: a reply is an array of numbers, in the order of its fields.
+#![tactic(auto)]
 ghost use Rattle.std.specs.Prelude.{◌≡◌};
 ghost use Rattle.himalowen.specs.Replies.{CheckLeaves, TightLeaves, RouteLeaves, PlanLeaves, told_places, routed_places, planned_places};
 

@@ -1,9 +1,10 @@
 // The bytes of an input, all of them or none: a read that fails is not taken for the end.
+#![tactic(auto)]
 ghost use Rattle.std.specs.Prelude.{◌≤◌, length};
 ghost use Rattle.io.specs.Counts.{IsPrefixLen};
 
 // How many bytes stand at the front of the buffer; none where a read failed, and then errno says why.
-#[derive(Drop)]
+#[derive(Clone, Copy)]
 pub struct Input {
     pub failed: bool,
     pub size: usize,

@@ -1,4 +1,5 @@
 // Whether a plan of a small hall is right: its choice the first of all that join, with cuts and levels that prove its total.
+#![tactic(auto)]
 mod listed;
 
 ghost use Rattle.std.specs.Prelude.{◌≤◌};
@@ -6,7 +7,7 @@ ghost use Rattle.std.specs.Prelude.{◌≤◌};
 use smallhalls::Small;
 
 // A plan's rows, cuts and levels stand at the first places of the lists.
-#[derive(Drop)]
+#[derive(Clone, Copy)]
 pub struct Plan {
     pub rows: [u32; 256],
     pub chosen: usize,

@@ -1,1 +1,2 @@
 // How many directed cuts there can be of which no two cross. No code.
+#![tactic(auto)]

@@ -1,4 +1,5 @@
 // Planning with the cuts lent as one list of structs, a junction set and a weight together. The promise is in specs/Lent.antt.
+#![tactic(auto)]
 ghost use Rattle.lanes.specs.Lent.{LentSays, Outlined};
 
 use cutlist::{Cut, Lists};
@@ -6,7 +7,7 @@ use planning::Planned;
 use refusals::Kind;
 
 // A plan's reply, and its cuts as two number lists.
-#[derive(Drop)]
+#[derive(Clone, Copy)]
 struct Outline {
     planned: Planned,
     count: usize,

@@ -1,1 +1,2 @@
 // General laws on booleans, numbers, lists and finite search. No code.
+#![tactic(auto)]

@@ -1,4 +1,5 @@
 // A plan with its cuts lent as structs, into lists that have a mark in every place.
+#![tactic(auto)]
 ghost use Rattle.std.specs.Prelude.{◌≤◌};
 
 use cutlist::Cut;
@@ -7,14 +8,14 @@ use planning::Planned;
 use tries::{Lists, Tried};
 
 // A plan's reply, and the list of cuts after it.
-#[derive(Drop)]
+#[derive(Clone, Copy)]
 struct Lanes {
     planned: Planned,
     cuts: [Cut; 126],
 }
 
 // The shores and the weights of cuts.
-#[derive(Drop)]
+#[derive(Clone, Copy)]
 struct Parts {
     shores: [u64; 126],
     weights: [u32; 126],

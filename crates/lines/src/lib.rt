@@ -1,6 +1,7 @@
 // Bytes at a place of a lent buffer: numbers, levels, sets of junctions, and the lines made of them.
 // It stands on `junctions` for what a set holds, and on `hall` for a cut.
 // Each writer gives the place after its text and changes no other place: `Put` of specs/Placed.antt.
+#![tactic(auto)]
 ghost use Rattle.std.specs.Prelude.{◌≡◌, [], ◌∷◌, ◌+◌, ◌≤◌, ◌<◌, nat_abs, length};
 ghost use Rattle.hall.specs.Plan.{cut};
 ghost use Rattle.lines.specs.Placed.{Put};

@@ -1,11 +1,12 @@
 // A hall and a choice of its rows, opened: refusals 2 to 9, 15 and 10 in their order, or the hall's record and the flags of the choice.
+#![tactic(auto)]
 ghost use Rattle.opening.specs.Opening.{Opening};
 
 use hallfile::HallRecord;
 use refusals::Kind;
 
 // A hall and the flags of a choice of its rows, or why there is none.
-#[derive(Drop)]
+#[derive(Clone, Copy)]
 pub struct Opened {
     pub refusal: Kind,
     pub hall: HallRecord,

@@ -1,5 +1,6 @@
 // Reads a hall from standard input and prints its list: the rows to open, their total, the cuts and the levels. Where the input
 // cannot be read to its end it prints nothing, and standard error says why.
+#![tactic(auto)]
 use libc::STDIN_FILENO;
 
 fn main() {

@@ -1,4 +1,5 @@
 // Planning: the first joining choice with its cuts and levels, into lent lists of numbers. The promise is in specs/Plan.antt.
+#![tactic(auto)]
 ghost use Rattle.std.specs.Prelude.{◌≡◌, true, ◌||◌, List, ℕ, ◌≤◌, eqb, ltb, length};
 ghost use Rattle.hall.specs.File.{hall_in, hall_refusal, refusal};
 ghost use Rattle.hallfile.specs.Record.{record_of};
@@ -8,7 +9,7 @@ use hallfile::HallRecord;
 use refusals::Kind;
 
 // A plan's reply: the filled lengths of the lent lists and the total, 0 where the call was refused.
-#[derive(Drop)]
+#[derive(Clone, Copy)]
 pub struct Planned {
     pub refusal: Kind,
     pub chosen: u32,

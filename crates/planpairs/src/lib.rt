@@ -1,5 +1,6 @@
 // The cuts' call of planning over two number lists: cuts beside the first joining choice, and the levels. The promise, `PairSays`, is
 // in `oneplan`.
+#![tactic(auto)]
 ghost use Rattle.std.specs.Prelude.{◌≡◌, true, ◌||◌, List, ℕ, ◌≤◌, eqb, ltb, length};
 ghost use Rattle.hall.specs.File.{hall_in, hall_refusal, refusal};
 ghost use Rattle.refusals.specs.Kinds.{refusal_of};
@@ -11,7 +12,7 @@ use hallfile::HallRecord;
 use refusals::Kind;
 
 // The reply: how many cuts and levels are listed, 0 where the call was refused.
-#[derive(Drop)]
+#[derive(Clone, Copy)]
 pub struct PlannedCuts {
     pub refusal: Kind,
     pub cuts: u32,

@@ -1,4 +1,5 @@
 // The rows' call of planning: the first joining choice and its total. The promise, `RowsSays`, is in `oneplan`.
+#![tactic(auto)]
 ghost use Rattle.std.specs.Prelude.{◌≡◌, true, List, ℕ, ◌≤◌, eqb, length};
 ghost use Rattle.hall.specs.File.{hall_in, hall_refusal, refusal};
 ghost use Rattle.refusals.specs.Kinds.{refusal_of};
@@ -10,7 +11,7 @@ use hallfile::HallRecord;
 use refusals::Kind;
 
 // The reply: how many rows are listed and their total, 0 where the call was refused.
-#[derive(Drop)]
+#[derive(Clone, Copy)]
 pub struct PlannedRows {
     pub refusal: Kind,
     pub chosen: u32,

@@ -1,9 +1,10 @@
 // Why a call is turned back: the kinds of documents 01 and 02, each with the number and the row that the papers give it.
+#![tactic(auto)]
 ghost use Rattle.std.specs.Prelude.{◌≡◌, eqb};
 ghost use Rattle.refusals.specs.Kinds.{refusal_of};
 
 // What turns a call back; the kinds of a row carry its number, from 1.
-#[derive(Drop)]
+#[derive(Clone, Copy)]
 pub enum Kind {
     None,
     ListShort,

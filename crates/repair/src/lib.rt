@@ -1,5 +1,6 @@
 // Repair: while a chosen row has a gap, search the zero graph and flip or raise, until P1, P2 and P3 hold.
 // These are `Repaired` in `potentials`; the neighbourhoods of the choice are those of `tight`.
+#![tactic(auto)]
 ghost use Rattle.std.specs.Prelude.{◌≡◌, true, ℕ, suc, ◌<◌, length};
 ghost use Rattle.laws.specs.Lists.{at};
 ghost use Rattle.hall.specs.Hall.{Hall};
@@ -15,7 +16,7 @@ use raise::raise_for;
 use zerograph::zero_graph;
 
 // A choice with its tight neighbourhoods, and a potential.
-#[derive(Drop)]
+#[derive(Clone, Copy)]
 pub struct State {
     pub chosen: [bool; 256],
     pub potential: [u64; 64],

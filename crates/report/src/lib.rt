@@ -1,4 +1,5 @@
 // The printed list of a hall file: its plan, or the line of its refusal, as specs/Report.antt says.
+#![tactic(auto)]
 ghost use Rattle.std.specs.Prelude.{◌≤◌, length};
 ghost use Rattle.report.specs.Report.{ReportSays};
 

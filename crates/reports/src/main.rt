@@ -1,4 +1,5 @@
 // Prints halls' lists: for each hall file of the arguments a line with its name, then what `openlist` prints for it.
+#![tactic(auto)]
 ghost use Rattle.std.specs.Prelude.{◌≤◌};
 
 use libc::STDOUT_FILENO;

@@ -1,4 +1,5 @@
 // Routes: for each four arguments, a hall file, its rows such as 1,3 (or - for none) and two junctions, prints the route from the first to the second.
+#![tactic(auto)]
 ghost use Rattle.std.specs.Prelude.{◌≤◌};
 
 use answers::{Finding, Told};

@@ -1,4 +1,5 @@
 // The route from a junction to another after a choice is opened, by specs/Route.antt.
+#![tactic(auto)]
 ghost use Rattle.std.specs.Prelude.{◌≡◌, ◌&&◌, cond, List, ℕ, ◌≤◌, leb, length};
 ghost use Rattle.hall.specs.Hall.{Hall, member, missed};
 ghost use Rattle.hall.specs.File.{refusal};
@@ -11,14 +12,14 @@ use junctions::Junctions;
 use refusals::Kind;
 
 // What was found of the way; nothing where the call was refused.
-#[derive(Drop)]
+#[derive(Clone, Copy)]
 pub enum Way {
     Nothing,
     Misses(Junctions),
     Route(usize),
 }
 
-#[derive(Drop)]
+#[derive(Clone, Copy)]
 pub struct Routed {
     pub refusal: Kind,
     pub way: Way,

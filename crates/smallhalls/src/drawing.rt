@@ -4,20 +4,20 @@ ghost use Rattle.std.specs.Prelude.{◌≡◌, ◌+◌, ◌≤◌, ◌<◌};
 use crate::{Small, without_rows};
 
 // A hall by its number, and what of the number is left over: 0 where there is a hall of that number.
-#[derive(Drop)]
+#[derive(Clone, Copy)]
 pub struct Numbered {
     pub hall: Small,
     pub left: u64,
 }
 
 // A random hall, and the number that the next one comes from.
-#[derive(Drop)]
+#[derive(Clone, Copy)]
 pub struct Drawn {
     pub hall: Small,
     pub seed: u64,
 }
 
-#[derive(Drop)]
+#[derive(Clone, Copy)]
 struct Ends {
     from: u8,
     to: u8,

@@ -1,11 +1,12 @@
 // Small halls: up to 6 junctions and 10 rows, drawn by number or by chance, and written as files.
+#![tactic(auto)]
 pub mod drawing;
 pub mod file;
 
 ghost use Rattle.std.specs.Prelude.{◌≡◌};
 
 // Row i + 1 runs between the junctions at place i, at the price there; a fixed one has price 0. Unused places are 0 and false.
-#[derive(Drop)]
+#[derive(Clone, Copy)]
 pub struct Small {
     pub n: usize,
     pub count: usize,

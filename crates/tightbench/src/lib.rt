@@ -1,4 +1,5 @@
 // Tight neighbourhoods for a program that times them: all of a hall's at once, and one by the public call.
+#![tactic(auto)]
 ghost use Rattle.std.specs.Prelude.{◌≡◌};
 ghost use Rattle.hall.specs.Hall.{Hall};
 ghost use Rattle.dicuts.specs.Shores.{Ranged, Joining, once};

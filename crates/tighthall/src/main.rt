@@ -1,4 +1,5 @@
 // Tight neighbourhoods: for each three arguments, a hall file, its rows such as 1,3 (or - for none) and a junction, prints what is found.
+#![tactic(auto)]
 ghost use Rattle.std.specs.Prelude.{◌≤◌};
 
 use libc::STDOUT_FILENO;

@@ -1,4 +1,5 @@
 // Lists that have a mark in every place: a plan into them, whether two such lists agree, and whether the marks still stand.
+#![tactic(auto)]
 ghost use Rattle.std.specs.Prelude.{◌≡◌, ◌≤◌, length};
 
 use planning::Planned;
@@ -10,7 +11,7 @@ pub const SHORE: u64 = 9_000_000_000_000_000_011;
 
 const SIGNED: i32 = 2_000_000_011;
 
-#[derive(Drop)]
+#[derive(Clone, Copy)]
 pub struct Lists {
     pub rows: [u32; 256],
     pub shores: [u64; 126],
@@ -19,7 +20,7 @@ pub struct Lists {
 }
 
 // A plan's reply and the lists after it.
-#[derive(Drop)]
+#[derive(Clone, Copy)]
 pub struct Tried {
     pub planned: Planned,
     pub lists: Lists,

@@ -6,7 +6,7 @@ use refusals::Kind;
 use smallhalls::{Small, file};
 use tries::Tried;
 
-#[derive(Drop)]
+#[derive(Clone, Copy)]
 pub enum Outcome {
     Same,
     Unjoined,

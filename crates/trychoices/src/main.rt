@@ -1,4 +1,5 @@
 // Plans small halls and judges each plan: against every choice, and by its cuts and levels.
+#![tactic(auto)]
 mod comparing;
 
 ghost use Rattle.std.specs.Prelude.{◌≤◌};
@@ -9,7 +10,7 @@ use smallhalls::{Small, drawing};
 use std::num::wrapping_add_u64;
 
 // Halls whose plan is the first choice, halls rightly refused as unjoined or for a cut of fixed rows, and halls where planner and search differ.
-#[derive(Drop)]
+#[derive(Clone, Copy)]
 struct Tally {
     same: u64,
     unjoined: u64,

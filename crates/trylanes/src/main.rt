@@ -1,5 +1,6 @@
 // Plans the hall files of the arguments into lists of several lengths. With cuts as structs, prints whether the reply and every place
 // are those of the plan with cuts in two number lists; with a list that is too short, whether every place is as it was.
+#![tactic(auto)]
 ghost use Rattle.std.specs.Prelude.{◌≤◌};
 
 use answers::Told;

@@ -5,7 +5,7 @@ use crate::walks;
 use crate::walks::Asked;
 use routing::{Routed, Way};
 
-#[derive(Drop)]
+#[derive(Clone, Copy)]
 pub enum Outcome {
     Route,
     Misses,

@@ -1,5 +1,6 @@
 // Routes of small halls: every choice of every hall of a size, and choices of random halls, between every two junctions and beside them,
 // each held to the first of the shortest sequences of steps.
+#![tactic(auto)]
 mod comparing;
 mod walks;
 
@@ -13,7 +14,7 @@ use std::num::wrapping_add_u64;
 use walks::Asked;
 
 // Halls and choices tried, and calls by what they rightly told; those whose reply or list is another.
-#[derive(Drop)]
+#[derive(Clone, Copy)]
 struct Tally {
     halls: u64,
     choices: u64,
@@ -33,7 +34,7 @@ const NONE: Tally = Tally {
 };
 
 // A choice as a list.
-#[derive(Drop)]
+#[derive(Clone, Copy)]
 struct Listed {
     rows: [u32; 10],
     count: usize,

@@ -5,7 +5,7 @@ ghost use Rattle.std.specs.Prelude.{◌≡◌, ◌<◌, ◌≤◌};
 use smallhalls::Small;
 
 // A choice of a hall's rows, the shore that it misses, 0 for none, and two junctions.
-#[derive(Drop)]
+#[derive(Clone, Copy)]
 pub struct Asked {
     pub hall: Small,
     pub choice: u64,
@@ -14,7 +14,7 @@ pub struct Asked {
     pub to: u8,
 }
 
-#[derive(Drop)]
+#[derive(Clone, Copy)]
 struct Step {
     row: i32,
     start: u8,
@@ -23,7 +23,7 @@ struct Step {
 }
 
 // A sequence of steps, and whether it leads where it should.
-#[derive(Drop)]
+#[derive(Clone, Copy)]
 pub struct Sequence {
     pub leads: bool,
     pub length: usize,

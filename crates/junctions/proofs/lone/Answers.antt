@@ -9,8 +9,7 @@ use borrow.Author.Rules.{rules}
 use Rattle.junctions.specs.Sets.{holds}
 use Rattle.junctions.proofs.Bits.{one_shl}
 use Rattle.junctions.proofs.Sets.{one_holds, none_holds}
-use Rattle.junctions.proofs.lone.Statement.{statement}
-use Rattle.junctions.proofs.lone.Tie as tie
+use Rattle.junctions.proofs.lone.Goals as goal
 
 moved : (there : Bool) (k i : ℕ) → k < 64 → 1 ≤ i → holds ((bool_byte there * 2 ^ k) % 2 ^ 64) i ≡ (there && eqb i (suc k))
 moved true k i less low =
@@ -18,14 +17,5 @@ moved true k i less low =
     ap (λ (s : ℕ). holds s i) (one_shl k less ∙ ap (λ (j : ℕ). 2 ^ j) (sym e)) ∙ one_holds i (suc k) low (omega arith)
 moved false k i less low = let e : (0 * 2 ^ k) % 2 ^ 64 ≡ 0 = omega arith in ap (λ (s : ℕ). holds s i) e ∙ none_holds i
 
-cast-result : tie.Need-overflow-cast-result
-cast-result c = search rules
-
-shl-result : tie.Need-overflow-shl-result
-shl-result c = search rules
-
-returns : tie.Need-returns
+pub returns : goal.returns
 returns c = λ i l. moved c.args.there c.args.place i c.requires l
-
-pub lone-spec : {M : Type 1} → statement M
-lone-spec = tie.close (tie.spec cast-result shl-result returns)

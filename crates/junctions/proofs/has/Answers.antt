@@ -4,15 +4,8 @@ use Prim.Native.Nat.{suc, ◌-◌}
 use native.Mathlib.Omega.{arith}
 use borrow.Author.Rules.{rules}
 use Rattle.junctions.specs.Sets.{holds}
-use Rattle.junctions.proofs.has.Statement.{statement}
-use Rattle.junctions.proofs.has.Tie as tie
+use Rattle.junctions.proofs.has.Goals as goal
 
-shr-result : tie.Need-overflow-shr-result
-shr-result c = search rules
-
-returns : tie.Need-returns
+pub returns : goal.returns
 unfolding holds
 returns c = let e : suc c.args.place - 1 ≡ c.args.place = omega arith in rw e refl
-
-pub has-spec : {M : Type 1} → statement M
-has-spec = tie.close (tie.spec shr-result returns)
