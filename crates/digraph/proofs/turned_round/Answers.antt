@@ -1,0 +1,26 @@
+use mathlib.Core.Path.{◌≡◌, refl}
+use Prim.Native.Nat.{◌-◌, ◌≤◌}
+use native.Mathlib.Omega.{arith}
+use lib.ListN.{length}
+use borrow.Author.Rules.{rules}
+use Rattle.laws.specs.Lists.{at}
+use Rattle.digraph.specs.Turns.{Rounding}
+use Rattle.digraph.proofs.Rounding.{round_start, round_step, round_end}
+use Rattle.digraph.proofs.turned_round.Goals as goal
+
+pub loop-x-init : goal.loop-x-init
+loop-x-init c = (omega arith, refl, round_start (at c.args.adjacency.now))
+
+pub loop-x-smaller : goal.loop-x-smaller
+loop-x-smaller c = omega arith
+
+pub loop-x-preserved : goal.loop-x-preserved
+loop-x-preserved c = let l = c.loop-x in let a = c.args in let put = c.put_into.ensures in (
+  omega arith,
+  put.size,
+  round_step (at a.adjacency.now) l.back _ l.x l.invariant.0 (rw c.arcs-into.ensures at put) l.invariant.2,
+)
+
+pub returns : goal.returns
+returns c = let l = c.loop-x in let a = c.args in
+    round_end (at a.adjacency.now) l.back l.x (omega arith) l.invariant.2
