@@ -1,5 +1,6 @@
 // The adjacency of a set of rows: one pass over the columns of a hall.
 #![tactic(auto)]
+
 ghost use Rattle.hall.specs.Hall.{Hall};
 ghost use Rattle.columns.specs.Columns.{Ends, Columns, Arcs, flagged};
 

@@ -1,5 +1,6 @@
 // What is reached over an adjacency of up to 64 junction sets, and with how many arcs.
 #![tactic(auto)]
+
 ghost use Rattle.std.specs.Prelude.{◌≡◌, ℕ, ◌-◌, ◌^◌, ◌≤◌, length};
 ghost use Rattle.std.specs.Int.Bits.{bit_or};
 ghost use Rattle.laws.specs.Lists.{at};

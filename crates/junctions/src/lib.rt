@@ -1,5 +1,6 @@
 // Sets of junctions 1 to 64, as the bits of a word: junction j is bit j - 1.
 #![tactic(auto)]
+
 ghost use Rattle.std.specs.Prelude.{◌≡◌, ◌&&◌, ℕ, suc, ◌≤◌, ◌<◌, eqb};
 ghost use Rattle.std.specs.Int.Count.{count_trailing_zeros};
 ghost use Rattle.junctions.specs.Sets.{holds, full};

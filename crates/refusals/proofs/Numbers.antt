@@ -1,9 +1,9 @@
 -- What a kind's number says of its row, that no kind's number is 7, and what a kind's test says of the refusal that it is. Assumes nothing.
 use mathlib.Core.Path.{◌≡◌, refl, sym, ap, ◌∙◌}
-use mathlib.Core.Bool.{Bool, true, false, not}
+use mathlib.Core.Bool.{Bool, true, false}
 use mathlib.Core.Logic.{◌⊎◌, inl, inr, ⊎_elim}
 use lib.Dec.{eqb}
-use borrow.Author.Tests.{eqb-false, not-true, not-false}
+use borrow.Author.Tests.{eqb-false}
 use Rattle.laws.proofs.Booleans.{clash}
 use Rattle.hall.specs.File.{Refusal, refusal}
 use Rattle.refusals.specs.declared.Kind.{Kind}
@@ -48,8 +48,8 @@ unfolding SevenUnused
 seven_unused k = eqb-false (refusal_of k).number 7 (kind_number k).1
 
 -- what a kind's test says of the refusal that it is
-pub is_refused : (k : Kind) (w : Refusal) (b : Bool) → refusal_of k ≡ w → b ≡ eqb (refusal_of k).number 0 → not b ≡ true → eqb w.number 0 ≡ false
-is_refused k w b e q t = ap (λ (v : Refusal). eqb v.number 0) (sym e) ∙ sym q ∙ not-true b t
+pub is_refused : (k : Kind) (w : Refusal) (b : Bool) → refusal_of k ≡ w → b ≡ eqb (refusal_of k).number 0 → b ≡ false → eqb w.number 0 ≡ false
+is_refused k w b e q t = ap (λ (v : Refusal). eqb v.number 0) (sym e) ∙ sym q ∙ t
 
-pub is_fine : (k : Kind) (w : Refusal) (b : Bool) → refusal_of k ≡ w → b ≡ eqb (refusal_of k).number 0 → not b ≡ false → eqb w.number 0 ≡ true
-is_fine k w b e q t = ap (λ (v : Refusal). eqb v.number 0) (sym e) ∙ sym q ∙ not-false b t
+pub is_fine : (k : Kind) (w : Refusal) (b : Bool) → refusal_of k ≡ w → b ≡ eqb (refusal_of k).number 0 → b ≡ true → eqb w.number 0 ≡ true
+is_fine k w b e q t = ap (λ (v : Refusal). eqb v.number 0) (sym e) ∙ sym q ∙ t

@@ -1,5 +1,6 @@
 // Why a call is turned back: the kinds of documents 01 and 02, each with the number and the row that the papers give it.
 #![tactic(auto)]
+
 ghost use Rattle.std.specs.Prelude.{◌≡◌, eqb};
 ghost use Rattle.refusals.specs.Kinds.{refusal_of};
 
@@ -29,6 +30,7 @@ pub enum Kind {
 }
 
 impl Kind {
+    #[tactic(auto, unfolding(crate::specs::Kinds::refusal_of, hall::specs::File::refusal))]
     pub fn is_none(self) -> bool
         ensures { result ≡ eqb (refusal_of self).number 0 }
     {
@@ -40,6 +42,7 @@ impl Kind {
 }
 
 // The number of a refusal, 0 for none.
+#[tactic(auto, unfolding(crate::specs::Kinds::refusal_of, hall::specs::File::refusal))]
 pub fn number_of(kind: Kind) -> u32
     ensures { result ≡ (refusal_of kind).number }
 {
@@ -68,6 +71,7 @@ pub fn number_of(kind: Kind) -> u32
 }
 
 // The row of a refusal, 0 where it carries none.
+#[tactic(auto, unfolding(crate::specs::Kinds::refusal_of, hall::specs::File::refusal))]
 pub fn row_of(kind: Kind) -> u32
     ensures { result ≡ (refusal_of kind).place }
 {

@@ -1,10 +1,8 @@
-use mathlib.Core.Logic.{⊎_elim}
 use mathlib.Core.Path.{◌≡◌}
-use Prim.Native.Nat.{◌-◌, ◌≤◌}
+use Prim.Native.Nat.{◌≤◌}
 use native.Mathlib.Omega.{arith}
 use lib.ListN.{get_or}
-use borrow.Author.Rules.{rules}
-use Rattle.adjacency.proofs.Filling.{Filling, fill_none, fill_ahead, fill_both, fill_arcs}
+use Rattle.adjacency.proofs.Filling.{fill_none, fill_ahead, fill_both, fill_arcs}
 use Rattle.adjacency.proofs.of_rows.Goals as goal
 use Rattle.adjacency.proofs.of_rows.Goals.{then-flags-i, else-flags-i, In-loop-i}
 
@@ -67,8 +65,8 @@ pub loop-i-preserved : goal.loop-i-preserved
 loop-i-preserved c = let l = c.loop-i in let a = c.args in (
   omega arith,
   elim c.if-flags-i.branch [
-    then-flags-i w ↦ rw w.sets-is (fill_both a.n l.i a.tails.now a.heads.now a.flags.now l.sets l.invariant.1 a.m c.requires c.loop-i-test.true w.if-flags-i.true)
-  | else-flags-i w ↦ rw w.sets-is (fill_ahead a.n l.i a.tails.now a.heads.now a.flags.now l.sets l.invariant.1 a.m c.requires c.loop-i-test.true w.if-flags-i.false)
+    | then-flags-i w ↦ rw w.sets-is (fill_both a.n l.i a.tails.now a.heads.now a.flags.now l.sets l.invariant.1 a.m c.requires c.loop-i-test.true w.if-flags-i.true)
+    | else-flags-i w ↦ rw w.sets-is (fill_ahead a.n l.i a.tails.now a.heads.now a.flags.now l.sets l.invariant.1 a.m c.requires c.loop-i-test.true w.if-flags-i.false)
   ],
 )
 

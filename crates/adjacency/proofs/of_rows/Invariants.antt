@@ -1,11 +1,6 @@
 -- `adjacency::of_rows` gives the arcs of the rows. The invariant: i is at most m, and the sets hold what the first i rows lead to (Filling). The measure is m - i. Assumes nothing.
-use mathlib.Core.Logic.{⊎_elim}
-use mathlib.Core.Path.{◌≡◌}
 use Prim.Native.Nat.{◌-◌, ◌≤◌}
-use native.Mathlib.Omega.{arith}
-use lib.ListN.{get_or}
-use borrow.Author.Rules.{rules}
-use Rattle.adjacency.proofs.Filling.{Filling, fill_none, fill_ahead, fill_both, fill_arcs}
+use Rattle.adjacency.proofs.Filling.{Filling}
 use Rattle.adjacency.proofs.of_rows.Given as goal
 
 abbrev pub invariant-loop-i : goal.invariant-loop-i

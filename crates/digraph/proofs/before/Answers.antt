@@ -1,9 +1,7 @@
 use mathlib.Core.Path.{sym, ◌∙◌}
-use Prim.Native.Nat.{◌≤◌, ◌-◌}
+use Prim.Native.Nat.{◌≤◌}
 use native.Mathlib.Omega.{arith}
-use borrow.Author.Tests.{not-true, not-false}
 use Rattle.laws.specs.Lists.{at}
-use Rattle.digraph.specs.Turns.{BeforeFrom}
 use Rattle.digraph.proofs.Backward.{test_before, ahead_next}
 use Rattle.digraph.proofs.before.Goals as goal
 use Rattle.digraph.proofs.before.Goals.{At-loop-x}

@@ -1,11 +1,7 @@
 -- `digraph::before` finds a junction one arc before y and one less far. The invariant: x is a junction, and one that there is is x or a later one (BeforeFrom). The measure is 65 - x. Assumes nothing.
-use mathlib.Core.Path.{sym, ◌∙◌}
 use Prim.Native.Nat.{◌≤◌, ◌-◌}
-use native.Mathlib.Omega.{arith}
-use borrow.Author.Tests.{not-true, not-false}
 use Rattle.laws.specs.Lists.{at}
 use Rattle.digraph.specs.Turns.{BeforeFrom}
-use Rattle.digraph.proofs.Backward.{test_before, ahead_next}
 use Rattle.digraph.proofs.before.Given as goal
 
 abbrev pub invariant-loop-x : goal.invariant-loop-x

@@ -1,13 +1,10 @@
-use mathlib.Core.Path.{◌≡◌, refl, ◌∙◌}
-use Prim.Native.Nat.{◌^◌, ◌<◌}
+use mathlib.Core.Path.{refl, ◌∙◌}
 use native.Mathlib.Omega.{arith}
 use lib.Count.{trailing_le}
-use lib.ListN.{length, length-set}
-use borrow.Author.Rules.{rules}
+use lib.ListN.{length-set}
 use Rattle.laws.specs.Lists.{at}
 use Rattle.junctions.proofs.Bits.{trailing_lt}
 use Rattle.junctions.proofs.Words.{clear_less}
-use Rattle.digraph.specs.Turns.{Spreading, Marking}
 use Rattle.digraph.proofs.Rest.{spread_start, spread_step, spread_end, mark_step, mark_end}
 use Rattle.digraph.proofs.expand.Goals as goal
 

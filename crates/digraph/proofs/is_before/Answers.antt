@@ -1,5 +1,4 @@
 -- `digraph::is_before` is the test whether x is one arc before y and one less far: it compares the two distances, and where they fit it looks for the arc. Assumes nothing.
-use borrow.Author.Rules.{rules}
 use Rattle.laws.specs.Lists.{at}
 use Rattle.digraph.proofs.Backward.{before_close, before_far}
 use Rattle.digraph.proofs.is_before.Goals as goal

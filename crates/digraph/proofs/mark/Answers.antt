@@ -1,12 +1,9 @@
-use mathlib.Core.Path.{◌≡◌, refl, ◌∙◌}
-use Prim.Native.Nat.{◌^◌, ◌<◌}
+use mathlib.Core.Path.{refl, ◌∙◌}
 use native.Mathlib.Omega.{arith}
 use lib.Count.{trailing_le}
-use lib.ListN.{length, length-set}
-use borrow.Author.Rules.{rules}
+use lib.ListN.{length-set}
 use Rattle.junctions.proofs.Bits.{trailing_lt}
 use Rattle.junctions.proofs.Words.{clear_less}
-use Rattle.digraph.specs.Turns.{Marking}
 use Rattle.digraph.proofs.Rest.{mark_step, mark_end}
 use Rattle.digraph.proofs.mark.Goals as goal
 

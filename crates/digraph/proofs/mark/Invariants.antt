@@ -1,15 +1,9 @@
 -- `digraph::mark` writes d at the set's junctions and nowhere else. The invariant: the rest is a word, the list has 64 places, and once the rest is marked too all of the set is (Marking).
 -- The measure is the rest as a number: it loses its lowest junction each turn. Assumes nothing.
-use mathlib.Core.Path.{◌≡◌, refl, ◌∙◌}
+use mathlib.Core.Path.{◌≡◌}
 use Prim.Native.Nat.{◌^◌, ◌<◌}
-use native.Mathlib.Omega.{arith}
-use lib.Count.{trailing_le}
-use lib.ListN.{length, length-set}
-use borrow.Author.Rules.{rules}
-use Rattle.junctions.proofs.Bits.{trailing_lt}
-use Rattle.junctions.proofs.Words.{clear_less}
+use lib.ListN.{length}
 use Rattle.digraph.specs.Turns.{Marking}
-use Rattle.digraph.proofs.Rest.{mark_step, mark_end}
 use Rattle.digraph.proofs.mark.Given as goal
 
 abbrev pub invariant-loop-rest : goal.invariant-loop-rest

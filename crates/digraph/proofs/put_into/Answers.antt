@@ -1,13 +1,11 @@
-use mathlib.Core.Path.{◌≡◌, refl, ◌∙◌}
+use mathlib.Core.Path.{refl, ◌∙◌}
 use Prim.Native.Nat.{◌-◌, ◌^◌, ◌<◌}
 use native.Mathlib.Omega.{arith}
 use lib.Bits.{bit_or}
 use lib.Count.{count_trailing_zeros, trailing_le}
-use lib.ListN.{length, length-set}
-use borrow.Author.Rules.{rules}
+use lib.ListN.{length-set}
 use Rattle.junctions.proofs.Bits.{one_shl, trailing_lt}
 use Rattle.junctions.proofs.Words.{clear_less}
-use Rattle.digraph.specs.Turns.{Marking}
 use Rattle.digraph.proofs.Rest.{mark_step, mark_end}
 use Rattle.digraph.proofs.put_into.Goals as goal
 use Rattle.digraph.proofs.put_into.Goals.{In-loop-rest}

@@ -1,16 +1,10 @@
 -- `digraph::put_into` puts a junction into the sets of others and nowhere else. The invariant: the rest is a word, there are 64 sets, and once it is in those of the rest too it is in all (Marking).
 -- The measure is the rest as a number: it loses its lowest junction each turn. Assumes nothing.
-use mathlib.Core.Path.{◌≡◌, refl, ◌∙◌}
+use mathlib.Core.Path.{◌≡◌}
 use Prim.Native.Nat.{◌-◌, ◌^◌, ◌<◌}
-use native.Mathlib.Omega.{arith}
 use lib.Bits.{bit_or}
-use lib.Count.{count_trailing_zeros, trailing_le}
-use lib.ListN.{length, length-set}
-use borrow.Author.Rules.{rules}
-use Rattle.junctions.proofs.Bits.{one_shl, trailing_lt}
-use Rattle.junctions.proofs.Words.{clear_less}
+use lib.ListN.{length}
 use Rattle.digraph.specs.Turns.{Marking}
-use Rattle.digraph.proofs.Rest.{mark_step, mark_end}
 use Rattle.digraph.proofs.put_into.Given as goal
 
 abbrev pub invariant-loop-rest : goal.invariant-loop-rest

@@ -1,5 +1,4 @@
 -- `digraph::reach` is the search that avoids no junction and has no goal. Assumes nothing.
-use borrow.Author.Rules.{rules}
 use Rattle.laws.proofs.Booleans.{clash}
 use Rattle.laws.specs.Lists.{at}
 use Rattle.junctions.proofs.Sets.{none_holds}

@@ -1,10 +1,8 @@
 use mathlib.Core.Path.{◌≡◌}
-use Prim.Native.Nat.{◌-◌, ◌<◌}
+use Prim.Native.Nat.{◌<◌}
 use native.Mathlib.Omega.{arith}
 use lib.Bits.{bit_and}
-use borrow.Author.Rules.{rules}
 use Rattle.laws.specs.Lists.{at}
-use Rattle.digraph.specs.Turns.{Turn}
 use Rattle.digraph.proofs.Breadth.{goes_on, breadth_start, breadth_below, breadth_step, breadth_stop}
 use Rattle.digraph.proofs.reach_until.Goals as goal
 use Rattle.digraph.proofs.reach_until.Goals.{After-expand-found, In-loop-layer}

@@ -1,13 +1,8 @@
 -- `digraph::reach_until` holds what is nearer than the goal, and of the goal what is nearest, with the fewest arcs to each. The invariant: d layers are done and marked, and the layer at hand is the next (Turn).
 -- The measure is 64 - d: a layer with a junction in it is below the 64th. Assumes nothing.
-use mathlib.Core.Path.{◌≡◌}
-use Prim.Native.Nat.{◌-◌, ◌<◌}
-use native.Mathlib.Omega.{arith}
-use lib.Bits.{bit_and}
-use borrow.Author.Rules.{rules}
+use Prim.Native.Nat.{◌-◌}
 use Rattle.laws.specs.Lists.{at}
 use Rattle.digraph.specs.Turns.{Turn}
-use Rattle.digraph.proofs.Breadth.{goes_on, breadth_start, breadth_below, breadth_step, breadth_stop}
 use Rattle.digraph.proofs.reach_until.Given as goal
 
 abbrev pub invariant-loop-layer : goal.invariant-loop-layer

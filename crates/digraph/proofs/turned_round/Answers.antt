@@ -1,10 +1,6 @@
-use mathlib.Core.Path.{◌≡◌, refl}
-use Prim.Native.Nat.{◌-◌, ◌≤◌}
+use mathlib.Core.Path.{refl}
 use native.Mathlib.Omega.{arith}
-use lib.ListN.{length}
-use borrow.Author.Rules.{rules}
 use Rattle.laws.specs.Lists.{at}
-use Rattle.digraph.specs.Turns.{Rounding}
 use Rattle.digraph.proofs.Rounding.{round_start, round_step, round_end}
 use Rattle.digraph.proofs.turned_round.Goals as goal
 

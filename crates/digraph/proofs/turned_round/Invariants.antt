@@ -1,12 +1,9 @@
 -- `digraph::turned_round` turns each arc round. The invariant: x is a junction or past the last, there are 64 sets, and each arc from a junction before x is turned round (Rounding). The measure is 65 - x. Assumes nothing.
-use mathlib.Core.Path.{◌≡◌, refl}
+use mathlib.Core.Path.{◌≡◌}
 use Prim.Native.Nat.{◌-◌, ◌≤◌}
-use native.Mathlib.Omega.{arith}
 use lib.ListN.{length}
-use borrow.Author.Rules.{rules}
 use Rattle.laws.specs.Lists.{at}
 use Rattle.digraph.specs.Turns.{Rounding}
-use Rattle.digraph.proofs.Rounding.{round_start, round_step, round_end}
 use Rattle.digraph.proofs.turned_round.Given as goal
 
 abbrev pub invariant-loop-x : goal.invariant-loop-x

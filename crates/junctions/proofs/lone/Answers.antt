@@ -5,7 +5,6 @@ use Prim.Native.Nat.{ℕ, suc, ◌-◌, ◌*◌, ◌%◌, ◌^◌, ◌≤◌, �
 use native.Mathlib.Omega.{arith}
 use lib.Dec.{eqb}
 use mir.Val.{bool_byte}
-use borrow.Author.Rules.{rules}
 use Rattle.junctions.specs.Sets.{holds}
 use Rattle.junctions.proofs.Bits.{one_shl}
 use Rattle.junctions.proofs.Sets.{one_holds, none_holds}

@@ -3,7 +3,6 @@ use mathlib.Core.Path.{ap}
 use Prim.Native.Nat.{ℕ, ◌-◌}
 use native.Mathlib.Omega.{arith}
 use lib.Pow.{pow_pos}
-use borrow.Author.Rules.{rules}
 use Rattle.junctions.specs.Sets.{full}
 use Rattle.junctions.proofs.Bits.{one_shl}
 use Rattle.junctions.proofs.Junctions.full.Goals as goal

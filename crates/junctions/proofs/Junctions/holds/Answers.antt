@@ -1,6 +1,5 @@
 -- Holds tests one junction's bit. Assumes nothing.
 use mathlib.Core.Path.{refl}
-use borrow.Author.Rules.{rules}
 use Rattle.junctions.specs.Sets.{holds}
 use Rattle.junctions.proofs.Junctions.holds.Goals as goal
 
