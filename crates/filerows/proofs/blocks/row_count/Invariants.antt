@@ -1,12 +1,9 @@
 -- `filerows::blocks::row_count` counts the rows of all blocks. The invariant: k is at most the number of blocks, and the rows counted, which are at most 2 ^ 32 a block, with those of the blocks from k on are all rows.
 -- The measure is blocks - k. Assumes nothing.
-use mathlib.Core.Path.{◌≡◌, ap}
+use mathlib.Core.Path.{◌≡◌}
 use Prim.Native.Nat.{◌+◌, ◌-◌, ◌*◌, ◌^◌, ◌≤◌}
-use native.Mathlib.Omega.{arith}
 use lib.ListN.{length}
-use borrow.Author.Rules.{rules}
 use Rattle.hall.specs.File.{all_rows}
-use Rattle.filerows.proofs.Pairs.{count_more, blocks_end}
 use Rattle.filerows.proofs.blocks.row_count.Given as goal
 
 abbrev pub invariant-loop-k : goal.invariant-loop-k

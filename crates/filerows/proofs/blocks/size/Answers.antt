@@ -1,5 +1,4 @@
 -- `filerows::blocks::size` gives a block's length: the number in the last four bytes of its pair. Assumes nothing.
-use borrow.Author.Rules.{rules}
 use Rattle.hall.specs.File.{long_of}
 use Rattle.filerows.proofs.blocks.size.Goals as goal
 

@@ -1,5 +1,4 @@
 -- `filerows::blocks::start` gives a block's offset: the number in the first four bytes of its pair. Assumes nothing.
-use borrow.Author.Rules.{rules}
 use Rattle.hall.specs.File.{offset}
 use Rattle.filerows.proofs.blocks.start.Goals as goal
 

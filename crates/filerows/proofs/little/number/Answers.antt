@@ -1,10 +1,9 @@
-use mathlib.Core.Path.{◌≡◌, sym}
-use Prim.Native.Nat.{◌+◌, ◌-◌, ◌*◌, ◌^◌, ◌≤◌, ◌<◌}
+-- `filerows::little::number`: the goals that its invariants leave. Assumes nothing.
+use mathlib.Core.Path.{sym}
+use Prim.Native.Nat.{◌+◌, ◌-◌, ◌*◌, ◌^◌, ◌<◌}
 use native.Mathlib.Omega.{arith}
 use lib.Pow.{pow_pos}
-use borrow.Author.Rules.{rules}
-use Rattle.hall.specs.File.{field}
-use Rattle.filerows.proofs.Fields.{field_none, field_back, field_whole, byte_more, eight_bytes}
+use Rattle.filerows.proofs.Fields.{field_none, field_back, byte_more, eight_bytes}
 use Rattle.filerows.proofs.little.number.Goals as goal
 use Rattle.filerows.proofs.little.number.Goals.{After-wide}
 
@@ -28,7 +27,3 @@ loop-i-preserved c = let a = c.args in (
   omega (arith, field_back a.bytes.now a.at a.width c.loop-i.i (omega arith) (omega arith) (omega arith)),
   more (goal.at.loop-i-preserved c).After-wide,
 )
-
-pub returns : goal.returns
-returns c = let l = c.loop-i in let a = c.args in
-    field_whole a.bytes.now a.at a.width l.i l.value c.loop-i-test.false l.invariant.1 l.invariant.2

@@ -1,11 +1,7 @@
 -- `filerows::little::number` gives the number in the bytes, least first. The invariant: i is at most the width, and the value is the number in the last bytes, from byte i on, and fits them. The measure is i. Assumes nothing.
-use mathlib.Core.Path.{◌≡◌, sym}
+use mathlib.Core.Path.{◌≡◌}
 use Prim.Native.Nat.{◌+◌, ◌-◌, ◌*◌, ◌^◌, ◌≤◌, ◌<◌}
-use native.Mathlib.Omega.{arith}
-use lib.Pow.{pow_pos}
-use borrow.Author.Rules.{rules}
 use Rattle.hall.specs.File.{field}
-use Rattle.filerows.proofs.Fields.{field_none, field_back, field_whole, byte_more, eight_bytes}
 use Rattle.filerows.proofs.little.number.Given as goal
 
 abbrev pub invariant-loop-i : goal.invariant-loop-i

@@ -1,10 +1,7 @@
 -- `filerows::places::settle` gives a place with the same rows left, whose own block has the first of them: the place itself, or the next block's start, since in a good table every block has a row. Assumes nothing.
-use mathlib.Core.List.{List}
-use mathlib.Core.Path.{refl}
-use Prim.Native.Nat.{ℕ, ◌+◌, ◌*◌, ◌≤◌, ◌<◌}
+use Prim.Native.Nat.{◌+◌, ◌*◌, ◌≤◌, ◌<◌}
 use native.Mathlib.Omega.{arith}
 use lib.ListN.{length}
-use borrow.Author.Rules.{rules}
 use Rattle.hall.specs.File.{blocks}
 use Rattle.filerows.proofs.Rest.{block_left, next_block}
 use Rattle.filerows.proofs.places.settle.Goals as goal
@@ -18,9 +15,6 @@ module _ (c : Else-left-gt0) where
   -- its pair lies in the file
   pair : (c.args.place.block < 16) × (12 + 8 * c.args.place.block ≤ length c.args.file.now)
   pair = (omega (arith, some, c.requires.table.few), omega (arith, some, c.requires.table.fits))
-
-pub returns-then-left-gt0 : goal.returns-then-left-gt0
-returns-then-left-gt0 c = record { stands = c.requires.stands; some = c.if-left-gt0.true; same = refl }
 
 pub start-at-requires : goal.start-at-requires
 start-at-requires c = pair (goal.at.start-at-requires c).Else-left-gt0

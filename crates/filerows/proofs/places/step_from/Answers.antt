@@ -1,7 +1,6 @@
 -- `filerows::places::step_from` gives the row in front of the place, and the place after it: the settled place's block has the row, in eight bytes. Assumes nothing.
 use mathlib.Core.Path.{sym, ◌∙◌}
 use native.Mathlib.Omega.{arith}
-use borrow.Author.Rules.{rules}
 use Rattle.hall.specs.File.{blocks}
 use Rattle.filerows.proofs.Rest.{row-after}
 use Rattle.filerows.proofs.places.step_from.Goals as goal
