@@ -1,5 +1,6 @@
 // Junctions by their potentials in a table: those of a set at one potential are read off it, or sought one by one.
 #![tactic(auto)]
+
 ghost use Rattle.std.specs.Prelude.{◌≡◌, ◌&&◌, cond, ℕ, ◌%◌, ◌^◌, ◌≤◌, ◌<◌, eqb};
 ghost use Rattle.laws.specs.Lists.{at};
 ghost use Rattle.junctions.specs.Sets.{holds};

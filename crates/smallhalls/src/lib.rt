@@ -1,5 +1,6 @@
 // Small halls: up to 6 junctions and 10 rows, drawn by number or by chance, and written as files.
 #![tactic(auto)]
+
 pub mod drawing;
 pub mod file;
 

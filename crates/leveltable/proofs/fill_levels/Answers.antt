@@ -1,12 +1,9 @@
-use Prim.Native.Nat.{◌-◌, ◌≤◌}
 use native.Mathlib.Omega.{arith}
-use borrow.Author.Rules.{rules}
-use Rattle.leveltable.specs.Levels.{Levels}
 use Rattle.leveltable.proofs.Levels.{levels_more, levels_all}
 use Rattle.leveltable.proofs.fill_levels.Goals as goal
 
 pub loop-k-preserved : goal.loop-k-preserved
-loop-k-preserved c =     let here = c.lone-here in let kept = c.settled-kept in let key = c.key_of-key in
+loop-k-preserved c = let here = c.lone-here in let kept = c.settled-kept in let key = c.key_of-key in
     let l = c.loop-k in let a = c.args in (
       omega arith,
       levels_more l.k key.result kept.result here.result a.potential.now l.values l.sets l.invariant.1 key.ensures.0 kept.ensures here.ensures,

@@ -1,9 +1,6 @@
 -- Fill_levels puts in one junction a turn. The invariant: the first k junctions are in the table. The measure is the junctions to come. Assumes nothing.
 use Prim.Native.Nat.{◌-◌, ◌≤◌}
-use native.Mathlib.Omega.{arith}
-use borrow.Author.Rules.{rules}
 use Rattle.leveltable.specs.Levels.{Levels}
-use Rattle.leveltable.proofs.Levels.{levels_more, levels_all}
 use Rattle.leveltable.proofs.fill_levels.Given as goal
 
 abbrev pub invariant-loop-k : goal.invariant-loop-k

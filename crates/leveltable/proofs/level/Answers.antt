@@ -1,14 +1,13 @@
 use mathlib.Core.Path.{◌≡◌, refl, sym, ap, ◌∙◌}
 use mathlib.Core.Bool.{Bool, ◌&&◌}
 use mathlib.Core.List.{List}
-use Prim.Native.Nat.{ℕ, suc, ◌-◌, ◌^◌, ◌<◌}
+use Prim.Native.Nat.{ℕ, suc, ◌-◌}
 use native.Mathlib.Omega.{arith}
 use lib.ListN.{get_or}
 use lib.Bits.{and_le_r}
 use lib.Dec.{eqb}
-use borrow.Author.Rules.{rules}
 use Rattle.laws.specs.Lists.{at}
-use Rattle.junctions.proofs.Taking.{Found, found_none, found_more, found_all}
+use Rattle.junctions.proofs.Taking.{found_none, found_more, found_all}
 use Rattle.leveltable.proofs.level.Goals as goal
 
 -- the junction at a place has the potential that stands there
@@ -22,7 +21,7 @@ pub loop-rest-smaller : goal.loop-rest-smaller
 loop-rest-smaller c = let rest = c.loop-rest.rest in omega (arith, and_le_r rest (rest - 1))
 
 pub loop-rest-preserved : goal.loop-rest-preserved
-loop-rest-preserved c =     let low = c.lowest-j in let l = c.loop-rest in let a = c.args in let rest = l.rest in
+loop-rest-preserved c = let low = c.lowest-j in let l = c.loop-rest in let a = c.args in let rest = l.rest in
     let test : ℕ → Bool = λ y. eqb a.value (at a.potential.now y) in
     let same : test (suc low.result) ≡ eqb a.value (get_or a.potential.now low.result 0) = test_at a.value a.potential.now low.result in (
       omega (arith, and_le_r rest (rest - 1)),

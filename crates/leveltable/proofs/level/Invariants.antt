@@ -1,15 +1,8 @@
 -- Level takes one junction of the set a turn. The invariant: those found and, of those left, the ones at the value make up the whole. The measure is what is left, as a number. Assumes nothing.
-use mathlib.Core.Path.{◌≡◌, refl, sym, ap, ◌∙◌}
-use mathlib.Core.Bool.{Bool, ◌&&◌}
-use mathlib.Core.List.{List}
-use Prim.Native.Nat.{ℕ, suc, ◌-◌, ◌^◌, ◌<◌}
-use native.Mathlib.Omega.{arith}
-use lib.ListN.{get_or}
-use lib.Bits.{and_le_r}
+use Prim.Native.Nat.{◌^◌, ◌<◌}
 use lib.Dec.{eqb}
-use borrow.Author.Rules.{rules}
 use Rattle.laws.specs.Lists.{at}
-use Rattle.junctions.proofs.Taking.{Found, found_none, found_more, found_all}
+use Rattle.junctions.proofs.Taking.{Found}
 use Rattle.leveltable.proofs.level.Given as goal
 
 abbrev pub invariant-loop-rest : goal.invariant-loop-rest

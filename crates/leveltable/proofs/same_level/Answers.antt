@@ -1,5 +1,4 @@
 -- Same_level meets the set with that of the value's key, or asks each junction. Assumes nothing.
-use borrow.Author.Rules.{rules}
 use Rattle.leveltable.proofs.Levels.{level_meets}
 use Rattle.leveltable.proofs.same_level.Goals as goal
 

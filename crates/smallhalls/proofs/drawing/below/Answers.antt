@@ -1,6 +1,5 @@
 -- `smallhalls::drawing::below` gives a number below the bound, a remainder. Assumes nothing.
 use native.Mathlib.Nat.{mod-lt}
-use borrow.Author.Rules.{rules}
 use Rattle.smallhalls.proofs.drawing.below.Goals as goal
 
 pub returns : goal.returns

@@ -1,7 +1,6 @@
 -- `smallhalls::drawing::of_number` gives a hall of at most 6 junctions and 10 rows. The invariant: i is at most the row count, and the hall has i rows and at most 6 junctions. The measure is count - i. Assumes nothing.
 use Prim.Native.Nat.{◌≤◌, ◌-◌}
 use mathlib.Core.Path.{◌≡◌}
-use borrow.Author.Rules.{rules}
 use Rattle.smallhalls.proofs.drawing.of_number.Given as goal
 
 abbrev pub invariant-loop-i : goal.invariant-loop-i
