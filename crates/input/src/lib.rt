@@ -1,76 +1,66 @@
 // The bytes of an input, all of them or none: a read that fails is not taken for the end.
 #![tactic(auto)]
-ghost use Rattle.std.specs.Prelude.{◌≤◌, length};
-ghost use Rattle.io.specs.Counts.{IsPrefixLen};
 
-// How many bytes stand at the front of the buffer; none where a read failed, and then errno says why.
-#[derive(Clone, Copy)]
-pub struct Input {
-    pub failed: bool,
-    pub size: usize,
-}
+ghost use Rattle.std.specs.Prelude.{◌≡◌, ◌<◌, IfOk, IfSome, OnErr, length, take};
+ghost use Rattle.std.specs.Io.{ReadsAtMost};
+ghost use Rattle.std.specs.Io.KnownBytes.{Consumes, Keeps, IsAtEnd};
 
-const FAILED: Input = Input {
-    failed: true,
-    size: 0,
-};
+use std::io::{ErrorKind, Read};
+use std::rt::Files;
+use std::{fs, io};
 
-// One read, made again where a signal interrupts it. A proved loop has to end: this one counts down from a number that no run
-// uses up.
-fn read_some(fd: i32, buf: &mut [u8]) -> Input
-    ensures { result.size ≤ length buf.old }
+// One read, made again where a signal interrupts it. A proved loop has to end: this one counts to a number that no run reaches.
+fn read_some<R: Read>(reader: &mut R, buf: &mut [u8]) -> io::Result<usize>
+    ensures bound { ReadsAtMost result buf.new }
+    ensures bytes { IfOk result (λ n. Consumes (R.remaining reader.old) (R.remaining reader.new) (take n buf.new)) }
+    ensures end { IfOk result (λ n. n ≡ 0 → 0 < length buf.old → IsAtEnd (R.remaining reader.new)) }
 {
-    let mut turns = u64::MAX;
-    while 0 < turns {
-        let got = libc::read(fd, buf);
-        if 0 <= got {
-            return Input {
-                failed: false,
-                size: io::count(got, buf),
-            };
+    for _ in 0..u64::MAX {
+        match reader.read(buf) {
+            Ok(n) => return Ok(n),
+            Err(error) => {
+                if error.kind() != ErrorKind::Interrupted {
+                    return Err(error);
+                }
+            }
         }
-        if os::errno() != libc::EINTR {
-            return FAILED;
-        }
-        turns -= 1;
     }
-    FAILED
+    Err(io::Error::from(ErrorKind::Interrupted))
 }
 
-// Reads until the input ends or the buffer is full.
-pub fn read_all(fd: i32, buf: &mut [u8]) -> Input
-    ensures { IsPrefixLen result.size buf.new }
+// Reads until the input ends or the buffer is full, and gives how many bytes stand at the front of the buffer.
+pub fn read_all<R: Read>(reader: &mut R, buf: &mut [u8]) -> io::Result<usize>
+    ensures bound { ReadsAtMost result buf.new }
+    ensures bytes { IfOk result (λ n. Consumes (R.remaining reader.old) (R.remaining reader.new) (take n buf.new)) }
+    ensures end { IfOk result (λ n. n < length buf.new → IsAtEnd (R.remaining reader.new)) }
 {
     let mut size: usize = 0;
     while size < buf.len() {
-        let more = read_some(fd, &mut buf[size..]);
-        if more.failed {
-            return FAILED;
-        }
-        if more.size == 0 {
+        let more = read_some(reader, &mut buf[size..])?;
+        if more == 0 {
             break;
         }
-        size += more.size;
+        size += more;
     }
-    Input {
-        failed: false,
-        size,
-    }
+    Ok(size)
 }
 
-// The bytes of a file by its name. Where it cannot be opened or read, standard error says why.
-pub fn read_file(name: &[u8], buf: &mut [u8]) -> Input
-    ensures { IsPrefixLen result.size buf.new }
+fn open_and_read<R: Files>(rt: &R, name: &str, buf: &mut [u8]) -> io::Result<usize>
+    ensures { ReadsAtMost result buf.new }
 {
-    let fd = os::open_read(name);
-    if fd < 0 {
-        os::fail(name);
-        return FAILED;
+    let mut file = fs::open(rt, name)?;
+    read_all(&mut file, buf)
+}
+
+// The bytes of a file by its name, as many as fit. Where it cannot be opened or read, standard error says why.
+pub fn read_file<R: Files + Eprint>(rt: &R, name: &str, buf: &mut [u8]) -> io::Result<usize>
+    ensures { ReadsAtMost result buf.new }
+{
+    match open_and_read(rt, name, buf) {
+        Ok(size) => Ok(size),
+        Err(error) => {
+            eprintln!(rt; "{name}: {error}")?;
+            Err(error)
+        }
     }
-    let input = read_all(fd, buf);
-    if input.failed {
-        os::fail(name);
-    }
-    libc::close(fd);
-    input
 }
