@@ -1,5 +1,6 @@
 // Choices of rows: whether a list of numbers is one, rows as flags, and which junctions do not reach all.
 #![tactic(auto)]
+
 ghost use Rattle.std.specs.Prelude.{◌≡◌, true, false, not, List, ℕ, suc, ◌-◌, ◌^◌, ◌≤◌, ◌<◌, length, get_or};
 ghost use Rattle.laws.specs.Finite.{any_below};
 ghost use Rattle.laws.specs.Lists.{all_in, at};

@@ -1,0 +1,17 @@
+-- `choice::is_choice` tells whether the list is a choice: it ascends, and then none of its rows is fixed. Assumes nothing.
+use mathlib.Core.Path.{sym, ◌∙◌}
+use Rattle.choice.proofs.Ascent.{ascends_wider}
+use Rattle.choice.proofs.Marked.{ascending_choice, unascending_choice}
+use Rattle.choice.proofs.is_choice.Goals as goal
+
+pub returns-then-not-ascends : goal.returns-then-not-ascends
+returns-then-not-ascends c = λ h rows marks. let a = c.args in
+    sym (unascending_choice h a.fixed.now marks a.rows rows a.numbers.now (sym c.ascends.ensures ∙ c.if-not-ascends.true))
+
+pub none_flagged-requires : goal.none_flagged-requires
+none_flagged-requires c = ascends_wider 1 c.args.rows 256 c.args.numbers.now c.requires (sym c.ascends.ensures ∙ c.if-not-ascends.false)
+
+pub returns : goal.returns
+returns c = λ h rows marks. let a = c.args in
+    c.none_flagged.ensures
+    ∙ sym (ascending_choice h a.fixed.now marks a.rows rows a.numbers.now (sym c.ascends.ensures ∙ c.if-not-ascends.false))
