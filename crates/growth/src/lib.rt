@@ -1,6 +1,7 @@
 // What a junction reaches even without any one frail arc, as a set that grows: by solid arcs, by second arcs, by sets that
 // are known, and by junctions in which two searches from it meet.
 #![tactic(auto)]
+
 ghost use Rattle.std.specs.Prelude.{◌≡◌, true, false, ℕ, ◌≤◌};
 ghost use Rattle.std.specs.Int.Bits.{bit_or};
 ghost use Rattle.laws.specs.Lists.{at};
