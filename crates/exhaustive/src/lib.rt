@@ -1,5 +1,6 @@
 // Which choices of a small hall join, and whether one is the first that does, by trying every choice against every directed cut.
 #![tactic(auto)]
+
 pub mod sets;
 
 ghost use Rattle.std.specs.Prelude.{◌+◌, ◌≤◌, ◌<◌};

@@ -3,14 +3,9 @@ use lib.Pow.{pow_mono, shl_exact}
 use mathlib.Core.Path.{◌≡◌}
 use Prim.Native.Nat.{◌≤◌, ◌*◌, ◌%◌, ◌^◌}
 use native.Mathlib.Omega.{arith}
-use borrow.Author.Rules.{rules}
-use Rattle.exhaustive.proofs.sets.subsets.Statement.{statement}
-use Rattle.exhaustive.proofs.sets.subsets.Tie as tie
+use Rattle.exhaustive.proofs.sets.subsets.Goals as goal
 
-shl-result : tie.Need-overflow-shl-result
-shl-result c = search rules
-
-returns : tie.Need-returns
+pub returns : goal.returns
 returns c = let k = c.args.k in
     let low : k ≤ 10 = c.requires in
     let q : (1 * 2 ^ k) % 2 ^ 64 ≡ 1 * 2 ^ k = shl_exact 1 k 64 (omega arith) (omega arith) in (
@@ -18,6 +13,3 @@ returns c = let k = c.args.k in
       omega (arith, q, pow_mono {i = k} {j = 10} low),
       λ few. omega (arith, q, pow_mono {i = k} {j = 6} few),
     )
-
-pub subsets-spec : {M : Type 1} → statement M
-subsets-spec = tie.close (tie.spec shl-result returns)
