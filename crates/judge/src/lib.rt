@@ -1,5 +1,6 @@
 // Whether a plan of a small hall is right: its choice the first of all that join, with cuts and levels that prove its total.
 #![tactic(auto)]
+
 mod listed;
 
 ghost use Rattle.std.specs.Prelude.{◌≤◌};

@@ -1,6 +1,5 @@
 -- `judge::ascend` ends and reads no place outside the list. The invariant: k is at most the number of chosen rows. The measure is chosen - k. Assumes nothing.
 use Prim.Native.Nat.{◌≤◌, ◌-◌}
-use borrow.Author.Rules.{rules}
 use Rattle.judge.proofs.ascend.Given as goal
 
 abbrev pub invariant-loop-k : goal.invariant-loop-k

@@ -1,6 +1,5 @@
 -- `judge::listed::are_cuts` ends and reads no place outside the lists. The invariant: k is at most the number of cuts. The measure is cuts - k. Assumes nothing.
 use Prim.Native.Nat.{◌≤◌, ◌-◌}
-use borrow.Author.Rules.{rules}
 use Rattle.judge.proofs.listed.are_cuts.Given as goal
 
 abbrev pub invariant-loop-k : goal.invariant-loop-k

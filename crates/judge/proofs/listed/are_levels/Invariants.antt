@@ -1,6 +1,5 @@
 -- `judge::listed::are_levels` ends and reads no place outside the list. The invariant: k is at most n. The measure is n - k. Assumes nothing.
 use Prim.Native.Nat.{◌≤◌, ◌-◌}
-use borrow.Author.Rules.{rules}
 use Rattle.judge.proofs.listed.are_levels.Given as goal
 
 abbrev pub invariant-loop-k : goal.invariant-loop-k

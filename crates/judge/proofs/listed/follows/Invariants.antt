@@ -1,6 +1,5 @@
 -- `judge::listed::follows` ends and reads no place outside the list. The invariant: k is at most the place. The measure is place - k. Assumes nothing.
 use Prim.Native.Nat.{◌≤◌, ◌-◌}
-use borrow.Author.Rules.{rules}
 use Rattle.judge.proofs.listed.follows.Given as goal
 
 abbrev pub invariant-loop-k : goal.invariant-loop-k

@@ -1,7 +1,6 @@
 -- `judge::listed::is_level`: a difference under 2 to the 31st has its negative in 32 bits. Assumes nothing.
 use Prim.Native.Nat.{◌-◌}
 use native.Mathlib.Omega.{arith}
-use borrow.Author.Rules.{rules}
 use Rattle.laws.proofs.Signs.{below_zero_fits}
 use Rattle.judge.proofs.listed.is_level.Goals as goal
 

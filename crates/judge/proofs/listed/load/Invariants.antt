@@ -1,6 +1,5 @@
 -- `judge::listed::load` ends, reads no place outside the lists, and its sum fits. The invariant: k is at most the number of cuts, and the sum at most k times the largest weight. The measure is cuts - k. Assumes nothing.
 use Prim.Native.Nat.{◌*◌, ◌≤◌, ◌-◌}
-use borrow.Author.Rules.{rules}
 use Rattle.judge.proofs.listed.load.Given as goal
 
 abbrev pub invariant-loop-k : goal.invariant-loop-k

@@ -1,6 +1,5 @@
 -- `judge::listed::loads_fit` ends and reads no place outside the lists. The invariant: i is at most the row count, and that is at most 10. The measure is count - i. Assumes nothing.
 use Prim.Native.Nat.{◌≤◌, ◌-◌}
-use borrow.Author.Rules.{rules}
 use Rattle.judge.proofs.listed.loads_fit.Given as goal
 
 abbrev pub invariant-loop-i : goal.invariant-loop-i
