@@ -2,6 +2,7 @@
 // It stands on `junctions` for what a set holds, and on `hall` for a cut.
 // Each writer gives the place after its text and changes no other place: `Put` of specs/Placed.antt.
 #![tactic(auto)]
+
 ghost use Rattle.std.specs.Prelude.{◌≡◌, [], ◌∷◌, ◌+◌, ◌≤◌, ◌<◌, nat_abs, length};
 ghost use Rattle.hall.specs.Plan.{cut};
 ghost use Rattle.lines.specs.Placed.{Put};

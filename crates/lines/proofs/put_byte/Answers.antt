@@ -1,5 +1,4 @@
 -- `lines::put_byte` puts one byte: one place is set. Assumes nothing.
-use borrow.Author.Rules.{rules}
 use Rattle.lines.proofs.Placed.{put_byte}
 use Rattle.lines.proofs.put_byte.Goals as goal
 

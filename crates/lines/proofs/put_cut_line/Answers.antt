@@ -22,26 +22,26 @@ module _ (c : Start) where
   Pieces-put k now place = Writing line (drop k pieces) c.args.at c.args.out.now now place
 
   short : length line ≤ 203
-  short = cut_line_short c.args.n c.args.shore c.args.weight c.requires.0 c.fits.weight.fits
+  short = cut_line_short c.args.n c.args.shore c.args.weight c.requires.0 c.ranges.weight.fits
 
   none-put : Pieces-put 0 c.args.out.now c.args.at
   none-put = begin (omega (arith, short, c.requires.1)) (cut_line_pieces c.args.n c.args.shore c.args.weight)
 
 -- what each call leaves
-weight-put : (c : After-put_number-second) → Pieces-put (goal.at.After-put_number-second c).Start 1 c.put_number-second.new.0 c.put_number-second.result
+weight-put : (c : After-put_number-second) → Pieces-put (goal.at.After-put_number-second c).Start 1 c.put_number-second.new.out c.put_number-second.result
 weight-put c = next (none-put (goal.at.After-put_number-second c).Start) c.put_number-second.ensures
 
-shore-put : (c : After-put_set-end) → Pieces-put (goal.at.After-put_set-end c).Start 2 c.put_set-end.new.0 c.put_set-end.result
+shore-put : (c : After-put_set-end) → Pieces-put (goal.at.After-put_set-end c).Start 2 c.put_set-end.new.out c.put_set-end.result
 shore-put c = next (weight-put (goal.at.After-put_set-end c).After-put_number-second) c.put_set-end.ensures
 
-line-put : (c : After-put_byte) → Pieces-put (goal.at.After-put_byte c).Start 3 c.put_byte.new.0 c.put_byte.result
+line-put : (c : After-put_byte) → Pieces-put (goal.at.After-put_byte c).Start 3 c.put_byte.new.out c.put_byte.result
 line-put c = next (shore-put (goal.at.After-put_byte c).After-put_set-end) c.put_byte.ensures
 
 pub put_number-second-requires : goal.put_number-second-requires
 put_number-second-requires c = room (none-put (goal.at.put_number-second-requires c).Start)
 
 pub put_set-end-requires : goal.put_set-end-requires
-put_set-end-requires c =     (c.requires.0, room (weight-put (goal.at.put_set-end-requires c).After-put_number-second))
+put_set-end-requires c = (c.requires.0, room (weight-put (goal.at.put_set-end-requires c).After-put_number-second))
 
 pub put_byte-requires : goal.put_byte-requires
 put_byte-requires c = room_byte (shore-put (goal.at.put_byte-requires c).After-put_set-end)
@@ -50,5 +50,5 @@ pub shape_of-out : goal.shape_of-out
 shape_of-out c = same_size (line-put (goal.at.shape_of-out c).After-put_byte)
 
 pub returns : goal.returns
-returns c =     let put = finish (line-put (goal.at.returns c).After-put_byte) in
+returns c = let put = finish (line-put (goal.at.returns c).After-put_byte) in
     (put, ends_by put (short (goal.at.returns c).Start))

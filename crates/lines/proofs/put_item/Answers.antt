@@ -7,8 +7,8 @@ use Rattle.lines.proofs.Placed.{Writing, begin, next, finish, same_size, room, r
 use Rattle.lines.proofs.Lines.{item_pieces}
 use Rattle.lines.proofs.put_item.Goals as goal
 use Rattle.lines.proofs.put_item.Goals.{After-put_byte-next, After-put_number, Start}
+    -- the first k pieces are put
 
-  -- the first k pieces are put
 module _ (c : Start) where
   -- the first k pieces are put
   abbrev Pieces-put : (k : ℕ) → (now : List ℕ) → (place : ℕ) → Type 0
@@ -18,10 +18,10 @@ module _ (c : Start) where
   none-put = begin c.requires (item_pieces c.args.number)
 
 -- what each call leaves
-space-put : (c : After-put_byte-next) → Pieces-put (goal.at.After-put_byte-next c).Start 1 c.put_byte-next.new.0 c.put_byte-next.result
+space-put : (c : After-put_byte-next) → Pieces-put (goal.at.After-put_byte-next c).Start 1 c.put_byte-next.new.out c.put_byte-next.result
 space-put c = next (none-put (goal.at.After-put_byte-next c).Start) c.put_byte-next.ensures
 
-item-put : (c : After-put_number) → Pieces-put (goal.at.After-put_number c).Start 2 c.put_number.new.0 c.put_number.result
+item-put : (c : After-put_number) → Pieces-put (goal.at.After-put_number c).Start 2 c.put_number.new.out c.put_number.result
 item-put c = next (space-put (goal.at.After-put_number c).After-put_byte-next) c.put_number.ensures
 
 pub put_byte-next-requires : goal.put_byte-next-requires

@@ -5,7 +5,6 @@ use Prim.Native.Nat.{ℕ, ◌+◌, ◌≤◌}
 use native.Mathlib.Omega.{arith}
 use lib.IntN.{nat_abs}
 use lib.ListN.{length, drop}
-use borrow.Author.Rules.{rules}
 use Rattle.lines.specs.Placed.{text}
 use Rattle.lines.specs.Lines.{space, minus, one, decimal, item, level_item}
 use Rattle.lines.proofs.Placed.{Writing, begin, next, finish, same_size, room, room_byte, ends_by}
@@ -15,12 +14,12 @@ use Rattle.lines.proofs.put_level.Goals.{After-put_byte-next, After-put_byte-sig
 
 -- the level's text
 module _ (c : Start) where
--- the level's text
+  -- the level's text
   abbrev whole : List ℕ
   whole = level_item c.args.level
 
   short : length whole ≤ 12
-  short = level_short c.args.level c.fits.level
+  short = level_short c.args.level c.ranges.level
 
   fits : c.args.at + length whole ≤ length c.args.out.now
   fits = omega (arith, short, c.requires)
@@ -28,7 +27,7 @@ module _ (c : Start) where
 -- once the size is known
 module _ (c : After-size-number) where
   is-size : c.size-number.result ≡ nat_abs c.args.level
-  is-size = measured c.args.level c.fits.level c.size-number.ensures
+  is-size = measured c.args.level c.ranges.level c.size-number.ensures
 
   -- the first k pieces of a level below 0 are put, and of any other
   abbrev Low-put : (k : ℕ) → (now : List ℕ) → (place : ℕ) → Type 0
@@ -47,16 +46,16 @@ high-none c = begin (fits (goal.at.Else-level-lt0 c).Start)
     (high_pieces c.args.level (tested c.args.level c.ranges.level c.if-level-lt0.false) ∙ ap (λ (k : ℕ). text (item k ∷ [])) (sym (is-size (goal.at.Else-level-lt0 c).After-size-number)))
 
 -- what each call leaves
-space-put : (c : After-put_byte-sign) → Low-put (goal.at.After-put_byte-sign c).After-size-number 1 c.put_byte-sign.new.0 c.put_byte-sign.result
+space-put : (c : After-put_byte-sign) → Low-put (goal.at.After-put_byte-sign c).After-size-number 1 c.put_byte-sign.new.out c.put_byte-sign.result
 space-put c = next (low-none (goal.at.After-put_byte-sign c).Then-level-lt0) c.put_byte-sign.ensures
 
-minus-put : (c : After-put_byte-next) → Low-put (goal.at.After-put_byte-next c).After-size-number 2 c.put_byte-next.new.0 c.put_byte-next.result
+minus-put : (c : After-put_byte-next) → Low-put (goal.at.After-put_byte-next c).After-size-number 2 c.put_byte-next.new.out c.put_byte-next.result
 minus-put c = next (space-put (goal.at.After-put_byte-next c).After-put_byte-sign) c.put_byte-next.ensures
 
-low-put : (c : After-put_number) → Low-put (goal.at.After-put_number c).After-size-number 3 c.put_number.new.0 c.put_number.result
+low-put : (c : After-put_number) → Low-put (goal.at.After-put_number c).After-size-number 3 c.put_number.new.out c.put_number.result
 low-put c = next (minus-put (goal.at.After-put_number c).After-put_byte-next) c.put_number.ensures
 
-high-put : (c : After-put_item) → High-put (goal.at.After-put_item c).After-size-number 1 c.put_item.new.0 c.put_item.result
+high-put : (c : After-put_item) → High-put (goal.at.After-put_item c).After-size-number 1 c.put_item.new.out c.put_item.result
 high-put c = next (high-none (goal.at.After-put_item c).Else-level-lt0) c.put_item.ensures
 
 pub put_byte-sign-requires : goal.put_byte-sign-requires
@@ -75,12 +74,12 @@ pub shape_of-out-then-level-lt0 : goal.shape_of-out-then-level-lt0
 shape_of-out-then-level-lt0 c = same_size (low-put (goal.at.shape_of-out-then-level-lt0 c).After-put_number)
 
 pub returns-then-level-lt0 : goal.returns-then-level-lt0
-returns-then-level-lt0 c =     let put = finish (low-put (goal.at.returns-then-level-lt0 c).After-put_number) in
+returns-then-level-lt0 c = let put = finish (low-put (goal.at.returns-then-level-lt0 c).After-put_number) in
     (put, ends_by put (short (goal.at.returns-then-level-lt0 c).Start))
 
 pub shape_of-out-else-level-lt0 : goal.shape_of-out-else-level-lt0
 shape_of-out-else-level-lt0 c = same_size (high-put (goal.at.shape_of-out-else-level-lt0 c).After-put_item)
 
 pub returns-else-level-lt0 : goal.returns-else-level-lt0
-returns-else-level-lt0 c =     let put = finish (high-put (goal.at.returns-else-level-lt0 c).After-put_item) in
+returns-else-level-lt0 c = let put = finish (high-put (goal.at.returns-else-level-lt0 c).After-put_item) in
     (put, ends_by put (short (goal.at.returns-else-level-lt0 c).Start))

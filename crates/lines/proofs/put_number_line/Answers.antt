@@ -20,13 +20,13 @@ module _ (c : Start) where
   none-put = begin c.requires (number_line_pieces c.args.word.now c.args.a)
 
 -- what each call leaves
-word-put : (c : After-put_text-first) → Pieces-put (goal.at.After-put_text-first c).Start 1 c.put_text-first.new.0 c.put_text-first.result
+word-put : (c : After-put_text-first) → Pieces-put (goal.at.After-put_text-first c).Start 1 c.put_text-first.new.out c.put_text-first.result
 word-put c = next (none-put (goal.at.After-put_text-first c).Start) c.put_text-first.ensures
 
-number_put : (c : After-put_number-end) → Pieces-put (goal.at.After-put_number-end c).Start 2 c.put_number-end.new.0 c.put_number-end.result
+number_put : (c : After-put_number-end) → Pieces-put (goal.at.After-put_number-end c).Start 2 c.put_number-end.new.out c.put_number-end.result
 number_put c = next (word-put (goal.at.After-put_number-end c).After-put_text-first) c.put_number-end.ensures
 
-line-put : (c : After-put_byte) → Pieces-put (goal.at.After-put_byte c).Start 3 c.put_byte.new.0 c.put_byte.result
+line-put : (c : After-put_byte) → Pieces-put (goal.at.After-put_byte c).Start 3 c.put_byte.new.out c.put_byte.result
 line-put c = next (number_put (goal.at.After-put_byte c).After-put_number-end) c.put_byte.ensures
 
 pub put_text-first-requires : goal.put_text-first-requires

@@ -20,16 +20,16 @@ module _ (c : Start) where
   none-put = begin c.requires (pair_line_pieces c.args.word.now c.args.a c.args.b)
 
 -- what each call leaves
-word-put : (c : After-put_text-first) → Pieces-put (goal.at.After-put_text-first c).Start 1 c.put_text-first.new.0 c.put_text-first.result
+word-put : (c : After-put_text-first) → Pieces-put (goal.at.After-put_text-first c).Start 1 c.put_text-first.new.out c.put_text-first.result
 word-put c = next (none-put (goal.at.After-put_text-first c).Start) c.put_text-first.ensures
 
-first-put : (c : After-put_number-second) → Pieces-put (goal.at.After-put_number-second c).Start 2 c.put_number-second.new.0 c.put_number-second.result
+first-put : (c : After-put_number-second) → Pieces-put (goal.at.After-put_number-second c).Start 2 c.put_number-second.new.out c.put_number-second.result
 first-put c = next (word-put (goal.at.After-put_number-second c).After-put_text-first) c.put_number-second.ensures
 
-second-put : (c : After-put_item-end) → Pieces-put (goal.at.After-put_item-end c).Start 3 c.put_item-end.new.0 c.put_item-end.result
+second-put : (c : After-put_item-end) → Pieces-put (goal.at.After-put_item-end c).Start 3 c.put_item-end.new.out c.put_item-end.result
 second-put c = next (first-put (goal.at.After-put_item-end c).After-put_number-second) c.put_item-end.ensures
 
-line-put : (c : After-put_byte) → Pieces-put (goal.at.After-put_byte c).Start 4 c.put_byte.new.0 c.put_byte.result
+line-put : (c : After-put_byte) → Pieces-put (goal.at.After-put_byte c).Start 4 c.put_byte.new.out c.put_byte.result
 line-put c = next (second-put (goal.at.After-put_byte c).After-put_item-end) c.put_byte.ensures
 
 pub put_text-first-requires : goal.put_text-first-requires

@@ -21,25 +21,25 @@ module _ (c : Start) where
   Pieces-put k now place = Writing line (drop k pieces) c.args.at c.args.out.now now place
 
   short : length line ≤ 30
-  short = four_line_short c.args.row c.args.from c.args.to c.args.price c.fits.row.fits c.fits.from.fits c.fits.to.fits c.fits.price.fits
+  short = four_line_short c.args.row c.args.from c.args.to c.args.price c.ranges.row.fits c.ranges.from.fits c.ranges.to.fits c.ranges.price.fits
 
   none-put : Pieces-put 0 c.args.out.now c.args.at
   none-put = begin (omega (arith, short, c.requires)) (four_line_pieces c.args.row c.args.from c.args.to c.args.price)
 
 -- what each call leaves
-number_put : (c : After-put_number-second) → Pieces-put (goal.at.After-put_number-second c).Start 1 c.put_number-second.new.0 c.put_number-second.result
+number_put : (c : After-put_number-second) → Pieces-put (goal.at.After-put_number-second c).Start 1 c.put_number-second.new.out c.put_number-second.result
 number_put c = next (none-put (goal.at.After-put_number-second c).Start) c.put_number-second.ensures
 
-from-put : (c : After-put_item-third) → Pieces-put (goal.at.After-put_item-third c).Start 2 c.put_item-third.new.0 c.put_item-third.result
+from-put : (c : After-put_item-third) → Pieces-put (goal.at.After-put_item-third c).Start 2 c.put_item-third.new.out c.put_item-third.result
 from-put c = next (number_put (goal.at.After-put_item-third c).After-put_number-second) c.put_item-third.ensures
 
-to-put : (c : After-put_item-fourth) → Pieces-put (goal.at.After-put_item-fourth c).Start 3 c.put_item-fourth.new.0 c.put_item-fourth.result
+to-put : (c : After-put_item-fourth) → Pieces-put (goal.at.After-put_item-fourth c).Start 3 c.put_item-fourth.new.out c.put_item-fourth.result
 to-put c = next (from-put (goal.at.After-put_item-fourth c).After-put_item-third) c.put_item-fourth.ensures
 
-price-put : (c : After-put_item-end) → Pieces-put (goal.at.After-put_item-end c).Start 4 c.put_item-end.new.0 c.put_item-end.result
+price-put : (c : After-put_item-end) → Pieces-put (goal.at.After-put_item-end c).Start 4 c.put_item-end.new.out c.put_item-end.result
 price-put c = next (to-put (goal.at.After-put_item-end c).After-put_item-fourth) c.put_item-end.ensures
 
-line-put : (c : After-put_byte) → Pieces-put (goal.at.After-put_byte c).Start 5 c.put_byte.new.0 c.put_byte.result
+line-put : (c : After-put_byte) → Pieces-put (goal.at.After-put_byte c).Start 5 c.put_byte.new.out c.put_byte.result
 line-put c = next (price-put (goal.at.After-put_byte c).After-put_item-end) c.put_byte.ensures
 
 pub put_number-second-requires : goal.put_number-second-requires
@@ -61,5 +61,5 @@ pub shape_of-out : goal.shape_of-out
 shape_of-out c = same_size (line-put (goal.at.shape_of-out c).After-put_byte)
 
 pub returns : goal.returns
-returns c =     let put = finish (line-put (goal.at.returns c).After-put_byte) in
+returns c = let put = finish (line-put (goal.at.returns c).After-put_byte) in
     (put, ends_by put (short (goal.at.returns c).Start))

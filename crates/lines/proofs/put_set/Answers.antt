@@ -1,8 +1,7 @@
 use mathlib.Core.Path.{◌∙◌, sym}
 use mathlib.Core.List.{List, [], ◌∷◌}
-use Prim.Native.Nat.{ℕ, ◌≤◌, ◌-◌, ◌+◌}
+use Prim.Native.Nat.{ℕ, ◌-◌, ◌+◌}
 use native.Mathlib.Omega.{arith}
-use borrow.Author.Rules.{rules}
 use Rattle.lines.specs.Lines.{item, set_text}
 use Rattle.lines.proofs.Sets.{set_start, set_in, set_out, set_end}
 use Rattle.lines.proofs.Placed.{Writing, begin, recut, room, next, finish, same_size}

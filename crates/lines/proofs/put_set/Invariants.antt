@@ -1,12 +1,8 @@
 -- `lines::put_set` puts the set's junctions one by one, a space before each. The invariant: j is at most n, and what is put, with the text of the set from junction j + 1 on, makes the text of the set. The measure is how many junctions are left. Assumes nothing.
-use mathlib.Core.Path.{◌∙◌, sym}
-use mathlib.Core.List.{List, [], ◌∷◌}
-use Prim.Native.Nat.{ℕ, ◌≤◌, ◌-◌, ◌+◌}
-use native.Mathlib.Omega.{arith}
-use borrow.Author.Rules.{rules}
-use Rattle.lines.specs.Lines.{item, set_text}
-use Rattle.lines.proofs.Sets.{set_start, set_in, set_out, set_end}
-use Rattle.lines.proofs.Placed.{Writing, begin, recut, room, next, finish, same_size}
+use mathlib.Core.List.{[], ◌∷◌}
+use Prim.Native.Nat.{◌≤◌, ◌-◌, ◌+◌}
+use Rattle.lines.specs.Lines.{set_text}
+use Rattle.lines.proofs.Placed.{Writing}
 use Rattle.lines.proofs.put_set.Given as goal
 
 abbrev pub invariant-loop-j : goal.invariant-loop-j

@@ -1,8 +1,7 @@
-use mathlib.Core.List.{List, [], ◌∷◌}
-use Prim.Native.Nat.{ℕ, ◌+◌, ◌≤◌, ◌-◌}
+use mathlib.Core.List.{[], ◌∷◌}
+use Prim.Native.Nat.{◌+◌}
 use native.Mathlib.Omega.{arith}
-use lib.ListN.{length, drop, get_or}
-use borrow.Author.Rules.{rules}
+use lib.ListN.{drop, get_or}
 use Rattle.lines.specs.Lines.{one}
 use Rattle.lines.proofs.Texts.{bytes_more, bytes_end, text-one}
 use Rattle.lines.proofs.Placed.{Writing, begin, recut, next, finish, same_size, room_byte}
@@ -12,7 +11,7 @@ use Rattle.lines.proofs.put_text.Goals.{In-loop-i}
 -- within the loop: byte i is to be put next
 module _ (c : In-loop-i) where
   byte_next : Writing c.args.text.now (one (get_or c.args.text.now c.loop-i.i 0) ∷ drop (c.loop-i.i + 1) c.args.text.now ∷ []) c.args.at c.args.out.now c.loop-i.out c.loop-i.end
-  byte_next = recut (bytes_more c.args.text.now c.loop-i.i.loop-i-test.true) c.loop-i.invariant.1
+  byte_next = recut (bytes_more c.args.text.now c.loop-i.i c.loop-i-test.true) c.loop-i.invariant.1
 
 pub loop-i-init : goal.loop-i-init
 loop-i-init c = (omega arith, begin c.requires (text-one c.args.text.now))

@@ -1,12 +1,8 @@
 -- `lines::put_text` puts the text byte by byte. The invariant: i is at most the text's length, and what is put, with the bytes from i on, makes the text. The measure is how many bytes are left. Assumes nothing.
-use mathlib.Core.List.{List, [], ◌∷◌}
-use Prim.Native.Nat.{ℕ, ◌+◌, ◌≤◌, ◌-◌}
-use native.Mathlib.Omega.{arith}
-use lib.ListN.{length, drop, get_or}
-use borrow.Author.Rules.{rules}
-use Rattle.lines.specs.Lines.{one}
-use Rattle.lines.proofs.Texts.{bytes_more, bytes_end, text-one}
-use Rattle.lines.proofs.Placed.{Writing, begin, recut, next, finish, same_size, room_byte}
+use mathlib.Core.List.{[], ◌∷◌}
+use Prim.Native.Nat.{◌≤◌, ◌-◌}
+use lib.ListN.{length, drop}
+use Rattle.lines.proofs.Placed.{Writing}
 use Rattle.lines.proofs.put_text.Given as goal
 
 abbrev pub invariant-loop-i : goal.invariant-loop-i

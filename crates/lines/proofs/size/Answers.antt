@@ -3,7 +3,6 @@ use mathlib.Core.Path.{◌≡◌}
 use mathlib.Core.Bool.{true, false}
 use lib.IntN.{pos}
 use lib.Signed.{lt_z}
-use borrow.Author.Rules.{rules}
 use Rattle.lines.proofs.Signs.{tested, wide_fits, less_fits, less_casts, less_size, high_casts}
 use Rattle.lines.proofs.size.Goals as goal
 use Rattle.lines.proofs.size.Goals.{Else-level-lt0, Then-level-lt0}
