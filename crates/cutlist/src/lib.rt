@@ -1,5 +1,6 @@
 // Cuts in a lent list: a junction set and a weight together.
 #![tactic(auto)]
+
 ghost use Rattle.std.specs.Prelude.{◌≡◌, ◌≤◌, ◌<◌, ◌++◌, length, drop};
 ghost use Rattle.cutlist.specs.Cuts.{listed_cut, cuts_from};
 
