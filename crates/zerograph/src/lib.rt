@@ -1,6 +1,7 @@
 // The zero graph of a choice and a potential as an adjacency: arcs of rows from their columns, and swaps within neighbourhoods.
 // The arcs are those of `zero_arcs` in `potentials`.
 #![tactic(auto)]
+
 ghost use Rattle.std.specs.Prelude.{◌≡◌, ℕ, ◌+◌, ◌^◌, ◌<◌, eqb};
 ghost use Rattle.laws.specs.Lists.{at};
 ghost use Rattle.hall.specs.Hall.{Hall};
