@@ -1,6 +1,7 @@
 // The flip of a route in the zero graph: the rows of its arcs are looked up and opened or closed.
 // It walks back along the distances of `digraph`; the legs and the flip are those of `potentials`.
 #![tactic(auto)]
+
 ghost use Rattle.std.specs.Prelude.{◌≡◌, ℕ, suc, ◌≤◌, ◌<◌, length};
 ghost use Rattle.laws.specs.Lists.{at};
 ghost use Rattle.laws.specs.First.{first_below};

@@ -1,6 +1,7 @@
 // The raise of a potential on a set, as far as the rows that enter it and the neighbourhoods that leave it allow.
 // `Raisable` and `raised` are those of `potentials`.
 #![tactic(auto)]
+
 ghost use Rattle.std.specs.Prelude.{◌≡◌, Bool, cond, ℕ, suc, ◌+◌, ◌-◌, ◌^◌, ◌≤◌, ◌<◌, min, get_or};
 ghost use Rattle.laws.specs.Lists.{at};
 ghost use Rattle.hall.specs.Hall.{Hall};

@@ -1,0 +1,26 @@
+use mathlib.Core.Path.{refl}
+use Prim.Native.Nat.{◌-◌}
+use native.Mathlib.Omega.{arith}
+use lib.Bits.{and_le_r}
+use Rattle.raise.specs.Rooms.{NearAllow}
+use Rattle.junctions.proofs.Taking.{within_self}
+use Rattle.raise.proofs.Rooms.{taken_room_none, taken_room_more, taken_within, taken_room_all, beyond, beyond_down, beyond_narrow}
+use Rattle.raise.proofs.near_room.Goals as goal
+
+pub loop-rest-init : goal.loop-rest-init
+loop-rest-init c = let a = c.args in (omega arith, within_self a.set, taken_room_none (beyond a.around.now a.potential.now a.set) a.set a.start)
+
+pub loop-rest-smaller : goal.loop-rest-smaller
+loop-rest-smaller c = let rest = c.loop-rest.rest in omega (arith, and_le_r rest (rest - 1))
+
+pub loop-rest-preserved : goal.loop-rest-preserved
+loop-rest-preserved c = let low = c.lowest-j in let l = c.loop-rest in let a = c.args in let rest = l.rest in let q = beyond a.around.now a.potential.now a.set in (
+  omega (arith, and_le_r rest (rest - 1)),
+  taken_within q a.set a.start rest low.result (omega arith) l.invariant.0 low.ensures.0 l.invariant.1,
+  taken_room_more q a.set a.start rest low.result (omega arith) l.invariant.0 low.ensures.0 l.invariant.1 (beyond_down a.around.now a.potential.now a.set)
+      l.room c.set_room-room.result l.invariant.2 (beyond_narrow a.around.now a.potential.now a.set low.result l.room c.set_room-room.result _ refl c.set_room-room.ensures),
+)
+
+pub returns : goal.returns
+unfolding NearAllow
+returns c = let l = c.loop-rest in let a = c.args in taken_room_all (beyond a.around.now a.potential.now a.set) a.set a.start l.rest l.room (omega arith) l.invariant.2
