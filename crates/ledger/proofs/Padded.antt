@@ -6,7 +6,6 @@ use native.Mathlib.Omega.{arith}
 use lib.ListN.{get_or, set, replicate, length-set, length-replicate}
 use lib.Seq.{get_or-set_same, get_or-set_other}
 use borrow.Author.Count.{below_more}
-use Rattle.laws.specs.Lists.{at}
 use Rattle.laws.proofs.Lists.{replicate-at}
 use Rattle.ledger.specs.Padded.{Padded}
 
