@@ -1,5 +1,6 @@
 // What a call answers of a choice: its refusal, or what it found. The numbers of document 01 are in specs/Answers.antt.
 #![tactic(auto)]
+
 ghost use Rattle.std.specs.Prelude.{◌≡◌};
 ghost use Rattle.choice.specs.Short.{if_some};
 ghost use Rattle.answers.specs.Answers.{outcome_of, set_of, missing, refused, surrounded};

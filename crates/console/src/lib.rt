@@ -1,10 +1,11 @@
 // What the programs share: numbers from text, and the lines that they print.
 #![tactic(auto)]
+
 ghost use Rattle.std.specs.Prelude.{◌≤◌};
 
 use answers::{Finding, Told};
 use junctions::Junctions;
-use libc::STDOUT_FILENO;
+use std::io;
 
 // Numbers as they are read from text: those that are done, and the digits of the next.
 #[derive(Clone, Copy)]
@@ -64,74 +65,59 @@ pub fn numbers_in(text: &[u8]) -> Numbers
         value: 0,
         started: false,
     };
-    let mut i: usize = 0;
-    while i < text.len() {
-        numbers = with_byte(numbers, text[i]);
-        i += 1;
+    for byte in text {
+        numbers = with_byte(numbers, *byte);
     }
     ended(numbers)
 }
 
 // A word and the number after it.
-pub fn print_item(word: &[u8], number: u64) {
-    io::write_all(STDOUT_FILENO, word);
-    io::print_decimal(STDOUT_FILENO, number);
+pub fn print_item(rt: &impl Print, word: &str, number: u64) -> io::Result<()> {
+    print!(rt; "{word}{number}")
 }
 
-fn print_set(word: &[u8], set: Junctions) {
-    io::write_all(STDOUT_FILENO, word);
-    let mut j: usize = 1;
-    while j <= 64 {
+fn print_set(rt: &impl Print, word: &str, set: Junctions) -> io::Result<()> {
+    print!(rt; "{word}")?;
+    for j in 1..65 {
         if set.holds(j) {
-            print_item(b" ", j as u64);
+            print_item(rt, " ", j as u64)?;
         }
-        j += 1;
     }
-    io::write_all(STDOUT_FILENO, b"\n");
+    println!(rt;)
 }
 
-fn print_refusal(number: u32, row: u32) {
-    print_item(b"REFUSED ", number as u64);
-    print_item(b" ", row as u64);
-    io::write_all(STDOUT_FILENO, b"\n");
+fn print_refusal(rt: &impl Print, number: u32, row: u32) -> io::Result<()> {
+    println!(rt; "REFUSED {number} {row}")
 }
 
-fn print_found(found: Finding) {
+fn print_found(rt: &impl Print, found: Finding) -> io::Result<()> {
     match found {
-        Finding::Nothing => {}
-        Finding::Joins => {
-            io::write_all(STDOUT_FILENO, b"JOINS\n");
-        }
-        Finding::Misses(shore) => print_set(b"MISSES", shore),
-        Finding::Around(set) => print_set(b"AROUND", set),
+        Finding::Nothing => Ok(()),
+        Finding::Joins => println!(rt; "JOINS"),
+        Finding::Misses(shore) => print_set(rt, "MISSES", shore),
+        Finding::Around(set) => print_set(rt, "AROUND", set),
     }
 }
 
 // A refusal's line, or that of what was found.
-pub fn print_told(told: Told) {
+pub fn print_told(rt: &impl Print, told: Told) -> io::Result<()> {
     let refusal = told.refusal;
-    let found = told.found;
     if refusal.is_none() {
-        print_found(found);
-        return;
+        return print_found(rt, told.found);
     }
-    print_refusal(refusals::number_of(refusal), refusals::row_of(refusal));
+    print_refusal(rt, refusals::number_of(refusal), refusals::row_of(refusal))
 }
 
 // A number with a space before it, and a minus where it is below 0.
-fn print_signed(number: i32) {
-    let mut text = [0u8; 12];
-    let end = lines::put_level(&mut text, 0, number);
-    io::write_all(STDOUT_FILENO, &text[..end]);
+fn print_signed(rt: &impl Print, number: i32) -> io::Result<()> {
+    print!(rt; " {number}")
 }
 
 // The line of a route: the first numbers of a list, as many as said and as it has.
-pub fn print_route(rows: &[i32], count: usize) {
-    io::write_all(STDOUT_FILENO, b"ROUTE");
-    let mut k: usize = 0;
-    while k < count && k < rows.len() {
-        print_signed(rows[k]);
-        k += 1;
+pub fn print_route(rt: &impl Print, rows: &[i32], count: usize) -> io::Result<()> {
+    print!(rt; "ROUTE")?;
+    for row in rows.iter().take(count) {
+        print_signed(rt, *row)?;
     }
-    io::write_all(STDOUT_FILENO, b"\n");
+    println!(rt;)
 }
