@@ -4,7 +4,7 @@ use mathlib.Core.Bool.{true, false}
 use lib.Dec.{eqb}
 use Rattle.laws.proofs.Booleans.{cond_true, cond_false}
 use Rattle.hall.specs.Hall.{Hall}
-use Rattle.hall.specs.File.{Refusal, refusal}
+use Rattle.hall.specs.File.{Refusal}
 use Rattle.refusals.specs.declared.Kind.{Kind}
 use Rattle.hallfile.specs.declared.Reading.{Reading}
 use Rattle.refusals.specs.Kinds.{refusal_of}

@@ -1,6 +1,7 @@
 // Reading a hall from the bytes of its file: refusals 2 to 9 and 15 in their fixed order, and the hall as columns.
 // It stands on the rows of `filerows`, what a hall's rows reach (`adjacency`, `digraph`, `choice`) and the kinds of `refusals`.
 #![tactic(auto)]
+
 ghost use Rattle.std.specs.Prelude.{◌≡◌, ◌&&◌, cond, ◌+◌, ◌*◌, leb, length};
 ghost use Rattle.hall.specs.File.{pairs_good, hall_in, refusal, hall_refusal};
 ghost use Rattle.refusals.specs.Kinds.{refusal_of};
@@ -107,6 +108,7 @@ fn read_shape(file: &[u8]) -> Reading
 }
 
 // 9 for a hall that falls apart, then 15 for one with a directed cut of fixed rows only, or none.
+#[tactic(auto, unfolding(refusals::specs::Kinds::refusal_of))]
 fn walk_refusal(joined: bool, opens: bool) -> Kind
     ensures { refusal_of result ≡ cond joined (cond opens (refusal 0 0) (refusal 15 0)) (refusal 9 0) }
 {

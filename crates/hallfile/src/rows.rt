@@ -14,6 +14,7 @@ use filerows::view;
 use refusals::Kind;
 
 // 6 or 8 for row i of a hall of n junctions, or none.
+#[tactic(auto, unfolding(refusals::specs::Kinds::refusal_of, filerows::specs::Steps::lane_row, crate::specs::Shape::row_refusal, hall::specs::File::row_number))]
 pub fn lane_refusal(n: usize, lane: Lane, i: u32) -> Kind
     ensures { refusal_of result ≡ row_refusal i n (lane_row lane) }
 {

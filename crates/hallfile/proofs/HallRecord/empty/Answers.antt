@@ -2,12 +2,8 @@
 use mathlib.Core.Path.{refl}
 use Rattle.hall.specs.Hall.{hall, count}
 use Rattle.hallfile.specs.Record.{empty_record, record_of, column, padded}
-use Rattle.hallfile.proofs.HallRecord.empty.Statement.{statement}
-use Rattle.hallfile.proofs.HallRecord.empty.Tie as tie
+use Rattle.hallfile.proofs.HallRecord.empty.Goals as goal
 
-returns : tie.Need-returns
+pub returns : goal.returns
 unfolding empty_record record_of column padded hall count
 returns c = refl
-
-pub empty-spec : {M : Type 1} → statement M
-empty-spec = tie.close (tie.spec returns)
