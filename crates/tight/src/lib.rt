@@ -1,5 +1,6 @@
 // Tight neighbourhoods of a joining choice: what a junction reaches even without any one frail arc.
 #![tactic(auto)]
+
 ghost use Rattle.std.specs.Prelude.{◌≡◌, ◌≤◌};
 ghost use Rattle.hall.specs.Hall.{Hall};
 ghost use Rattle.dicuts.specs.Shores.{around, Ranged, once, Joining};
