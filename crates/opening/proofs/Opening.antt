@@ -1,6 +1,6 @@
 -- What an opened hall gives: a choice of a sound, ranged and linked hall, in columns and flags. Assumes nothing.
 use mathlib.Core.Path.{◌≡◌, ap, ◌∙◌}
-use mathlib.Core.Bool.{Bool, true, false, not, cond}
+use mathlib.Core.Bool.{Bool, true, false, cond}
 use mathlib.Core.List.{List}
 use Prim.Native.Nat.{ℕ, suc, ◌-◌, ◌≤◌, ◌<◌}
 use native.Mathlib.Omega.{arith}
@@ -56,10 +56,10 @@ module _ (bs c : List ℕ) (passed : eqb (choice_refusal bs c).number 0 ≡ true
   list_chosen = by_bool (is_choice (hall_in bs) c) (λ e. e) (λ e. clash passed (ap (λ (f : Refusal). eqb f.number 0) (list_refused bs c hall_fine e)))
 
 module _ (bs c : List ℕ) (r : Opened) (o : Opening bs c r) (none : Bool) (said : none ≡ eqb (refusal_of r.refusal).number 0) where
-  pub turned_back : not none ≡ true → eqb (choice_refusal bs c).number 0 ≡ false
+  pub turned_back : none ≡ false → eqb (choice_refusal bs c).number 0 ≡ false
   turned_back t = is_refused r.refusal (choice_refusal bs c) none o.refusal said t
 
-  module _ (t : not none ≡ false) where
+  module _ (t : none ≡ true) where
     pub passed : eqb (choice_refusal bs c).number 0 ≡ true
     passed = is_fine r.refusal (choice_refusal bs c) none o.refusal said t
 

@@ -1,5 +1,6 @@
 // A hall and a choice of its rows, opened: refusals 2 to 9, 15 and 10 in their order, or the hall's record and the flags of the choice.
 #![tactic(auto)]
+
 ghost use Rattle.opening.specs.Opening.{Opening};
 
 use hallfile::HallRecord;
