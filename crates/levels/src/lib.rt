@@ -1,6 +1,7 @@
 // The levels of listed cuts: for each junction the weights of the shores that hold it, less those of the shores that
 // hold junction 1. Sums and differences are those of `hall`; `Levelled` of specs/Levels.antt says every place.
 #![tactic(auto)]
+
 ghost use Rattle.std.specs.Prelude.{◌≡◌, cond, ◌+◌, ◌^◌, ◌≤◌, ◌<◌, length};
 ghost use Rattle.junctions.specs.Sets.{holds};
 ghost use Rattle.hall.specs.Plan.{level_sum, difference};
