@@ -2,6 +2,7 @@
 // the component. Pieces are found by `digraph` and listed by `shorelist`; what is added is `classes_weigh` of
 // specs/Shores.antt, over the pieces of `certificates`.
 #![tactic(auto)]
+
 ghost use Rattle.std.specs.Prelude.{◌≡◌, ℕ, ◌^◌, ◌≤◌, ◌<◌, length};
 ghost use Rattle.laws.specs.Lists.{at};
 ghost use Rattle.certificates.specs.Pieces.{Mutual, inside};

@@ -1,0 +1,63 @@
+use mathlib.Core.Path.{refl}
+use mathlib.Core.List.{List}
+use Prim.Native.Nat.{ℕ, ◌^◌, ◌<◌}
+use native.Mathlib.Omega.{arith}
+use lib.Bits.{bit_and, bit_xor}
+use lib.Count.{count_trailing_zeros, trailing_le}
+use Rattle.laws.specs.Lists.{at}
+use Rattle.junctions.proofs.Bits.{trailing_lt}
+use Rattle.digraph.specs.Reach.{Reach}
+use Rattle.shorelist.specs.Listed.{Fits, Added, alone}
+use Rattle.setshores.specs.Shores.{Components}
+use Rattle.setshores.proofs.Rest.{lowest_reach}
+use Rattle.setshores.proofs.Components.{components_start, components_end, components_fits, components_more, components_less}
+use Rattle.setshores.proofs.add_components.Goals as goal
+use Rattle.setshores.proofs.add_components.Goals.{After-reach-component}
+
+-- within the loop, once a component is found
+module _ (c : After-reach-component) where
+  some : 0 < c.loop-left.left
+  some = omega arith
+
+  reached : Reach 64 (at c.within-inside.result) (2 ^ count_trailing_zeros 64 c.loop-left.left) c.reach-component.result
+  reached = lowest_reach (at c.within-inside.result) c.loop-left.left c.reach-component.result _ _ some c.loop-left.invariant.0.fits (omega (arith, c.reach-component.type_inv)) c.reach-component.ensures
+
+  fits : Fits c.loop-left.filled c.loop-left.shores c.loop-left.weights (alone (bit_xor c.full-all.result.0 (bit_and c.full-all.result.0 c.reach-component.result)) c.args.weight)
+  fits = components_fits c.args.class c.args.weight c.full-all.ensures c.requires.0 c.loop-left.invariant.0 c.requires.2 some c.within-inside.ensures.1 reached c.requires.3
+
+  less : bit_xor c.loop-left.left (bit_and c.loop-left.left c.reach-component.result) < c.loop-left.left
+  less = components_less c.args.class c.args.weight c.full-all.ensures c.requires.0 c.loop-left.invariant.0 c.requires.2 some c.within-inside.ensures.1 reached
+
+  more : {count : ℕ} {shores weights : List ℕ} → Added c.loop-left.filled c.loop-left.shores c.loop-left.weights (alone (bit_xor c.full-all.result.0 (bit_and c.full-all.result.0 c.reach-component.result)) c.args.weight) count shores weights
+      → Components c.args.n (at c.args.links.now) c.args.class c.args.weight c.args.count c.args.shores.now c.args.weights.now (bit_xor c.loop-left.left (bit_and c.loop-left.left c.reach-component.result)) count shores weights
+  more = components_more c.args.class c.args.weight c.full-all.ensures c.requires.0 c.loop-left.invariant.0 c.requires.2 some c.within-inside.ensures.1 reached
+
+pub loop-left-init : goal.loop-left-init
+loop-left-init c = (components_start c.args.class c.args.weight c.full-all.ensures c.requires.0 c.requires.3.listed, refl)
+
+pub overflow_cast-left : goal.overflow_cast-left
+overflow_cast-left c = record { fits = omega (arith, trailing_le 64 c.loop-left.left) }
+
+pub overflow_add-left : goal.overflow_add-left
+overflow_add-left c = record { fits = omega (arith, trailing_le 64 c.loop-left.left) }
+
+pub reach-component-requires : goal.reach-component-requires
+reach-component-requires c = (omega arith, omega (arith, trailing_lt 64 c.loop-left.left (omega arith) c.loop-left.invariant.0.fits), c.loop-left.invariant.1)
+
+pub add-filled-requires : goal.add-filled-requires
+add-filled-requires c = (c.requires.1, fits (goal.at.add-filled-requires c).After-reach-component)
+
+pub loop-left-smaller : goal.loop-left-smaller
+loop-left-smaller c = less (goal.at.loop-left-smaller c).After-reach-component
+
+pub loop-left-preserved : goal.loop-left-preserved
+loop-left-preserved c = (more (goal.at.loop-left-preserved c).After-reach-component c.add-filled.ensures, c.reach-component.ensures.size)
+
+pub shape_of-shores : goal.shape_of-shores
+shape_of-shores c = c.loop-left.invariant.0.adding.shores_size
+
+pub shape_of-weights : goal.shape_of-weights
+shape_of-weights c = c.loop-left.invariant.0.adding.weights_size
+
+pub returns : goal.returns
+returns c = components_end c.args.class c.args.weight c.full-all.ensures c.requires.0 c.loop-left.invariant.0 c.loop-left-test.false
