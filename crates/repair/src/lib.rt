@@ -1,6 +1,7 @@
 // Repair: while a chosen row has a gap, search the zero graph and flip or raise, until P1, P2 and P3 hold.
 // These are `Repaired` in `potentials`; the neighbourhoods of the choice are those of `tight`.
 #![tactic(auto)]
+
 ghost use Rattle.std.specs.Prelude.{◌≡◌, true, ℕ, suc, ◌<◌, length};
 ghost use Rattle.laws.specs.Lists.{at};
 ghost use Rattle.hall.specs.Hall.{Hall};
