@@ -1,5 +1,6 @@
 // The check: whether a choice joins, by specs/Check.antt.
 #![tactic(auto)]
+
 ghost use Rattle.checking.specs.Check.{CheckSays};
 
 use answers::Told;
