@@ -1,6 +1,7 @@
 // The cuts that a joining choice and its potential give, with their weights, and the levels. They are listed by
 // `setshores`, threshold by threshold, and levelled by `levels`; `fill` gives exactly the `cuts` of `certificates`.
 #![tactic(auto)]
+
 pub mod sets;
 pub mod thresholds;
 
