@@ -1,6 +1,7 @@
 // The first choice of least ranked cost: row by row, each is decided for good.
 // It stands on the zero graph, the flip and the raise; `First` is that of `hall`.
 #![tactic(auto)]
+
 ghost use Rattle.std.specs.Prelude.{◌≡◌, ℕ, suc, ◌+◌, ◌^◌, ◌≤◌, ◌<◌, length, get_or};
 ghost use Rattle.laws.specs.Lists.{at};
 ghost use Rattle.hall.specs.Hall.{Hall};
