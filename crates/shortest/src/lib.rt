@@ -1,5 +1,6 @@
 // The first route with the fewest rows from a junction to another, over rows forward and chosen rows backward.
 #![tactic(auto)]
+
 ghost use Rattle.std.specs.Prelude.{◌≡◌, true, cond, List, ℕ, ◌≤◌, ◌<◌, length};
 ghost use Rattle.std.proofs.Math.Option.{some};
 ghost use Rattle.laws.specs.Lists.{at, in_front};
