@@ -1,6 +1,7 @@
 // A joining choice to start from: of rows that join each is dropped, dearest first, if the others still join.
 // It stands on the order of the rows (`dearest`), their arcs (`adjacency`, `tight`) and what these reach (`digraph`); `Joining` is that of `dicuts`.
 #![tactic(auto)]
+
 ghost use Rattle.std.specs.Prelude.{◌≡◌, true, ℕ, suc, ◌≤◌, ◌<◌};
 ghost use Rattle.laws.specs.Lists.{at};
 ghost use Rattle.junctions.specs.Sets.{holds};
