@@ -6,8 +6,8 @@ ghost use Rattle.std.specs.Io.{ReadsAtMost};
 ghost use Rattle.std.specs.Io.KnownBytes.{Consumes, Keeps, IsAtEnd};
 
 use std::io::{ErrorKind, Read};
-use std::rt::Files;
-use std::{fs, io};
+use std::rt::{Env, Files};
+use std::{env, fs, io};
 
 // One read, made again where a signal interrupts it. A proved loop has to end: this one counts to a number that no run reaches.
 fn read_some<R: Read>(reader: &mut R, buf: &mut [u8]) -> io::Result<usize>
@@ -62,5 +62,19 @@ pub fn read_file<R: Files + Eprint>(rt: &R, name: &str, buf: &mut [u8]) -> io::R
             eprintln!(rt; "{name}: {error}")?;
             Err(error)
         }
+    }
+}
+
+// The words that a program is started with, after its own name.
+pub fn arguments<R: Env + AllocGlobal>(rt: &R) -> io::Result<Vec<String>> {
+    let words = env::args(rt)?.skip(1).collect(rt.alloc())?;
+    Ok(words)
+}
+
+// The word at a place, from 0; the empty text where there is none.
+pub fn argument(words: &[String], place: usize) -> &str {
+    match words.get(place) {
+        Some(word) => word.as_str(),
+        None => "",
     }
 }

@@ -1,37 +1,26 @@
 // Prints halls' lists: for each hall file of the arguments a line with its name, then what `openlist` prints for it.
 #![tactic(auto)]
-ghost use Rattle.std.specs.Prelude.{◌≤◌};
 
-use libc::STDOUT_FILENO;
+use std::io;
+use std::rt::Files;
 
-fn print_file(name: &[u8]) {
+fn print_file(rt: &impl Print, name: &str, file: &[u8]) -> io::Result<()> {
+    println!(rt; "{name}:")?;
+    report::print_list(rt, file)
+}
+
+fn print_argument<R: Files + Print + Eprint>(rt: &R, name: &str) -> io::Result<()> {
     let mut file = [0u8; 65_537];
-    let read = input::read_file(name, &mut file);
-    if read.failed {
-        return;
+    match input::read_file(rt, name, &mut file) {
+        Ok(size) => print_file(rt, name, &file[..size]),
+        Err(_) => Ok(()),
     }
-    io::write_all(STDOUT_FILENO, name);
-    io::write_all(STDOUT_FILENO, b":\n");
-    let size = read.size;
-    report::print_list(&file[..size]);
 }
 
-fn print_argument(i: usize)
-    requires { i ≤ 4096 }
-{
-    let mut name = io::buffer();
-    let named = os::arg(i, &mut name);
-    print_file(&name[..named]);
-}
-
-fn main() {
-    let count = os::arg_count();
-    let mut i: usize = 1;
-    while i < count {
-        if 4096 < i {
-            return;
-        }
-        print_argument(i);
-        i += 1;
+fn main(rt: HostRuntime) -> io::Result<()> {
+    let words = input::arguments(&rt)?;
+    for word in &words {
+        print_argument(&rt, word.as_str())?;
     }
+    Ok(())
 }

@@ -1,55 +1,55 @@
 // Tight neighbourhoods: for each three arguments, a hall file, its rows such as 1,3 (or - for none) and a junction, prints what is found.
 #![tactic(auto)]
+
 ghost use Rattle.std.specs.Prelude.{◌≤◌};
 
-use libc::STDOUT_FILENO;
+use std::io;
+use std::rt::Files;
 
-fn print_neighbourhood(file: &[u8], rows: [u32; 257], count: usize, junction: u32)
+fn print_neighbourhood(
+    rt: &impl Print,
+    file: &[u8],
+    rows: [u32; 257],
+    count: usize,
+    junction: u32,
+) -> io::Result<()>
     requires { count ≤ 257 }
 {
-    console::print_told(neighbourhood::tight_neighbourhood(file, &rows[..count], junction));
+    console::print_told(
+        rt,
+        neighbourhood::tight_neighbourhood(file, &rows[..count], junction),
+    )
 }
 
-fn look_around(name: &[u8], rows: &[u8], junction: &[u8]) {
+fn look_around<R: Files + Print + Eprint>(
+    rt: &R,
+    name: &str,
+    rows: &str,
+    junction: &str,
+) -> io::Result<()> {
     let mut file = [0u8; 65_537];
-    let read = input::read_file(name, &mut file);
-    if read.failed {
-        return;
-    }
-    let size = read.size;
-    let numbers = console::numbers_in(rows);
-    let list = numbers.list;
-    let count = numbers.count;
-    let junctions = console::numbers_in(junction).list;
-    print_neighbourhood(&file[..size], list, count, junctions[0]);
-}
-
-fn look_for_arguments(i: usize)
-    requires { i ≤ 4096 }
-{
-    let mut name = io::buffer();
-    let named = os::arg(i, &mut name);
-    let mut rows = io::buffer();
-    let listed = os::arg(i + 1, &mut rows);
-    let mut junction = io::buffer();
-    let written = os::arg(i + 2, &mut junction);
-    io::write_all(STDOUT_FILENO, &name[..named]);
-    io::write_all(STDOUT_FILENO, b" ");
-    io::write_all(STDOUT_FILENO, &rows[..listed]);
-    io::write_all(STDOUT_FILENO, b" ");
-    io::write_all(STDOUT_FILENO, &junction[..written]);
-    io::write_all(STDOUT_FILENO, b": ");
-    look_around(&name[..named], &rows[..listed], &junction[..written]);
-}
-
-fn main() {
-    let count = os::arg_count();
-    let mut i: usize = 1;
-    while i < count {
-        if 4096 < i {
-            return;
+    match input::read_file(rt, name, &mut file) {
+        Ok(size) => {
+            let numbers = console::numbers_in(rows.as_bytes());
+            let junctions = console::numbers_in(junction.as_bytes()).list;
+            print_neighbourhood(rt, &file[..size], numbers.list, numbers.count, junctions[0])
         }
-        look_for_arguments(i);
-        i += 3;
+        Err(_) => Ok(()),
     }
+}
+
+fn look_for_arguments<R: Files + Print + Eprint>(rt: &R, words: &[String]) -> io::Result<()> {
+    let name = input::argument(words, 0);
+    let rows = input::argument(words, 1);
+    let junction = input::argument(words, 2);
+    print!(rt; "{name} {rows} {junction}: ")?;
+    look_around(rt, name, rows, junction)
+}
+
+fn main(rt: HostRuntime) -> io::Result<()> {
+    let words = input::arguments(&rt)?;
+    for asked in words.chunks(3) {
+        look_for_arguments(&rt, asked)?;
+    }
+    Ok(())
 }
