@@ -1,5 +1,6 @@
 // The tight neighbourhood of a junction, by specs/Tight.antt.
 #![tactic(auto)]
+
 ghost use Rattle.neighbourhood.specs.Tight.{TightSays};
 
 use answers::{Finding, Told};
