@@ -6,7 +6,7 @@ use Prim.Native.Nat.{ℕ, ◌≤◌}
 use native.Mathlib.Omega.{arith}
 use lib.IntN.{ℤ}
 use lib.ListN.{length}
-use Rattle.hall.specs.Hall.{Hall, count, is_choice}
+use Rattle.hall.specs.Hall.{Hall, is_choice}
 use Rattle.hall.specs.File.{Refusal, refusal}
 use Rattle.hall.specs.Plan.{Cut}
 use Rattle.hallfile.specs.declared.HallRecord.{HallRecord}

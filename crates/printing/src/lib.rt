@@ -2,6 +2,7 @@
 // It stands on the lines of `lines`, the record of `hallfile` and the kinds of `refusals`.
 // A part of the list is `Put` at its place, the whole is `InFront`: specs/Printed.antt says its bytes.
 #![tactic(auto)]
+
 ghost use Rattle.std.specs.Prelude.{◌≡◌, true, ◌+◌, ◌*◌, ◌≤◌, length};
 ghost use Rattle.hall.specs.Hall.{is_choice};
 ghost use Rattle.hall.specs.File.{refusal};
