@@ -1,9 +1,10 @@
 // The printed list of a hall file: its plan, or the line of its refusal, as specs/Report.antt says.
 #![tactic(auto)]
+
 ghost use Rattle.std.specs.Prelude.{◌≤◌, length};
 ghost use Rattle.report.specs.Report.{ReportSays};
 
-use libc::STDOUT_FILENO;
+use std::io;
 
 // The list at the front of the buffer; gives its length.
 pub fn report(file: &[u8], out: &mut [u8]) -> usize
@@ -37,8 +38,8 @@ pub fn report(file: &[u8], out: &mut [u8]) -> usize
 }
 
 // The list to standard output.
-pub fn print_list(file: &[u8]) {
-    let mut out = io::large_buffer();
+pub fn print_list(rt: &impl Print, file: &[u8]) -> io::Result<()> {
+    let mut out = [0u8; 65_536];
     let length = report(file, &mut out);
-    io::write_all(STDOUT_FILENO, &out[..length]);
+    rt.write_all(&out[..length])
 }
