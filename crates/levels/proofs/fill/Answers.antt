@@ -1,3 +1,4 @@
+-- Each turn puts in the level of one junction more, which fits its place. Assumes nothing.
 use mathlib.Core.Path.{◌≡◌, ◌∙◌}
 use mathlib.Core.List.{List}
 use mir.Syntax.{w32}

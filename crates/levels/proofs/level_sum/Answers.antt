@@ -1,3 +1,4 @@
+-- Each turn adds what one place more weighs; no sum overflows, since no weight does and the places are few. Assumes nothing.
 use mathlib.Core.Path.{◌≡◌, refl, ap, ◌∙◌}
 use Prim.Native.Nat.{ℕ}
 use native.Mathlib.Omega.{arith}

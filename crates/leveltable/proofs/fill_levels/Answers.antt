@@ -1,3 +1,4 @@
+-- Each turn puts one junction more into the table. Assumes nothing.
 use native.Mathlib.Omega.{arith}
 use Rattle.leveltable.proofs.Levels.{levels_more, levels_all}
 use Rattle.leveltable.proofs.fill_levels.Goals as goal

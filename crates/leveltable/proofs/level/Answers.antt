@@ -1,3 +1,4 @@
+-- Each turn takes the lowest junction that is left, and notes it where it is at the value. Assumes nothing.
 use mathlib.Core.Path.{◌≡◌, refl, sym, ap, ◌∙◌}
 use mathlib.Core.Bool.{Bool, ◌&&◌}
 use mathlib.Core.List.{List}

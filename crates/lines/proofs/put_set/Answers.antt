@@ -1,3 +1,4 @@
+-- Each turn puts the next junction where the set holds it, and there is room for it. Assumes nothing.
 use mathlib.Core.Path.{◌∙◌, sym}
 use mathlib.Core.List.{List, [], ◌∷◌}
 use Prim.Native.Nat.{ℕ, ◌-◌, ◌+◌}

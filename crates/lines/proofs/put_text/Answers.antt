@@ -1,3 +1,4 @@
+-- Each turn puts the next byte, and there is room for it. Assumes nothing.
 use mathlib.Core.List.{[], ◌∷◌}
 use Prim.Native.Nat.{◌+◌}
 use native.Mathlib.Omega.{arith}

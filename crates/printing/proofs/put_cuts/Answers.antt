@@ -1,3 +1,4 @@
+-- Each turn puts the next cut's line, and there is room for it. Assumes nothing.
 use mathlib.Core.Path.{◌≡◌, ap}
 use Prim.Native.Nat.{ℕ, ◌<◌}
 use native.Mathlib.Omega.{arith}

@@ -1,3 +1,4 @@
+-- Each turn puts the next level, and there is room for it. Assumes nothing.
 use native.Mathlib.Omega.{arith}
 use lib.IntN.{pos}
 use borrow.Author.Rules.{rules}

@@ -1,3 +1,4 @@
+-- Each turn puts the next row's line, which the columns hold, and there is room for it. Assumes nothing.
 use Prim.Native.Nat.{ℕ, ◌≤◌}
 use native.Mathlib.Omega.{arith}
 use lib.ListN.{get_or}

@@ -1,3 +1,4 @@
+-- Each turn finds the class of the lowest junction that is left, adds the shores of the class, and leaves fewer junctions. Assumes nothing.
 use mathlib.Core.Path.{refl}
 use mathlib.Core.List.{List}
 use Prim.Native.Nat.{ℕ, ◌^◌, ◌<◌}

@@ -1,3 +1,4 @@
+-- Each turn finds the component of the lowest junction that is left, adds its shore, and leaves fewer junctions. Assumes nothing.
 use mathlib.Core.Path.{refl}
 use mathlib.Core.List.{List}
 use Prim.Native.Nat.{ℕ, ◌^◌, ◌<◌}

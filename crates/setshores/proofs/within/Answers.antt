@@ -1,3 +1,4 @@
+-- Each turn puts in the arcs of one junction more, and after 64 of them every junction has its arcs inside the set. Assumes nothing.
 use mathlib.Core.Path.{refl}
 use Prim.Native.Nat.{◌-◌}
 use native.Mathlib.Omega.{arith}

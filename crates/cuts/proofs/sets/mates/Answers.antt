@@ -1,3 +1,4 @@
+-- Each turn puts in the mates of one junction more, and after n of them every junction has its mates. Assumes nothing.
 use mathlib.Core.Path.{◌≡◌, refl, ap, ◌∙◌}
 use Prim.Native.Nat.{◌-◌, ◌+◌}
 use native.Mathlib.Omega.{arith}

@@ -1,3 +1,4 @@
+-- Before the first turn no value is known, and each turn takes in that of one junction more. Assumes nothing.
 use mathlib.Core.Path.{◌≡◌}
 use native.Mathlib.Omega.{arith}
 use Rattle.laws.specs.Lists.{at}

@@ -1,3 +1,4 @@
+-- Each turn gathers one junction more, and after n of them the set is the upper set. Assumes nothing.
 use mathlib.Core.Path.{◌≡◌, refl, ap, ◌∙◌}
 use Prim.Native.Nat.{ℕ}
 use native.Mathlib.Omega.{arith}

@@ -1,3 +1,4 @@
+-- Each turn adds the shores of one threshold more, for which there is room; where no value is higher, all thresholds are added. Assumes nothing.
 use Prim.Native.Nat.{◌≤◌, ◌<◌}
 use native.Mathlib.Omega.{arith}
 use Rattle.laws.specs.Lists.{at}
