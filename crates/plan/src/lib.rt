@@ -1,6 +1,7 @@
 // Planning over the columns of a hall: a choice of least cost with its potential, then the first of all choices.
 // It stands on the start, the neighbourhoods, repair and the dictionary step; its promises use `Repaired` and `First`.
 #![tactic(auto)]
+
 ghost use Rattle.std.specs.Prelude.{◌≡◌, ℕ, ◌≤◌};
 ghost use Rattle.laws.specs.Lists.{at};
 ghost use Rattle.hall.specs.Hall.{Hall};
