@@ -1,5 +1,6 @@
 // The route from a junction to another after a choice is opened, by specs/Route.antt.
 #![tactic(auto)]
+
 ghost use Rattle.std.specs.Prelude.{◌≡◌, ◌&&◌, cond, List, ℕ, ◌≤◌, leb, length};
 ghost use Rattle.hall.specs.Hall.{Hall, member, missed};
 ghost use Rattle.hall.specs.File.{refusal};
