@@ -1,4 +1,4 @@
-// The exported calls, as include/himalowen.h declares them: a reply is an array of numbers, in the order of its fields.
+// The calls of the C library, as include/himalowen.h declares them: a reply is an array of numbers, in the order of its fields. `himalowen_c` exports them.
 #![tactic(auto)]
 ghost use Rattle.std.specs.Prelude.{◌≡◌};
 ghost use Rattle.himalowen.specs.Replies.{CheckLeaves, TightLeaves, RouteLeaves, PlanLeaves, told_places, routed_places, planned_places};
@@ -48,8 +48,7 @@ fn planned_places(planned: Planned) -> [u64; 6]
     ]
 }
 
-#[unsafe(no_mangle)]
-pub extern "C" fn himalowen_check(file: &[u8], choice: &[u32], reply: &mut [u64; 4]) -> u32
+pub fn himalowen_check(file: &[u8], choice: &[u32], reply: &mut [u64; 4]) -> u32
     ensures { CheckLeaves file.now choice.now result reply.new }
 {
     let told = checking::check_choice(file, choice);
@@ -58,8 +57,7 @@ pub extern "C" fn himalowen_check(file: &[u8], choice: &[u32], reply: &mut [u64;
     refusals::number_of(refusal)
 }
 
-#[unsafe(no_mangle)]
-pub extern "C" fn himalowen_tight(
+pub fn himalowen_tight(
     file: &[u8],
     choice: &[u32],
     junction: u32,
@@ -73,8 +71,7 @@ pub extern "C" fn himalowen_tight(
     refusals::number_of(refusal)
 }
 
-#[unsafe(no_mangle)]
-pub extern "C" fn himalowen_route(
+pub fn himalowen_route(
     file: &[u8],
     choice: &[u32],
     from: u32,
@@ -90,8 +87,7 @@ pub extern "C" fn himalowen_route(
     refusals::number_of(refusal)
 }
 
-#[unsafe(no_mangle)]
-pub extern "C" fn himalowen_plan(
+pub fn himalowen_plan(
     file: &[u8],
     rows: &mut [u32],
     shores: &mut [u64],

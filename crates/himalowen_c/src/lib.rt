@@ -1,0 +1,51 @@
+// The exports of libhimalowen.a, as include/himalowen.h declares them: each is the call of that name in `himalowen`, with its promise.
+#![tactic(auto)]
+ghost use Rattle.himalowen.specs.Replies.{CheckLeaves, TightLeaves, RouteLeaves, PlanLeaves};
+
+#[unsafe(no_mangle)]
+pub extern "C" fn himalowen_check(file: &[u8], choice: &[u32], reply: &mut [u64; 4]) -> u32
+    ensures { CheckLeaves file.now choice.now result reply.new }
+{
+    himalowen::himalowen_check(file, choice, reply)
+}
+
+#[unsafe(no_mangle)]
+pub extern "C" fn himalowen_tight(
+    file: &[u8],
+    choice: &[u32],
+    junction: u32,
+    reply: &mut [u64; 4],
+) -> u32
+    ensures { TightLeaves file.now choice.now junction result reply.new }
+{
+    himalowen::himalowen_tight(file, choice, junction, reply)
+}
+
+#[unsafe(no_mangle)]
+pub extern "C" fn himalowen_route(
+    file: &[u8],
+    choice: &[u32],
+    from: u32,
+    to: u32,
+    rows: &mut [i32],
+    reply: &mut [u64; 5],
+) -> u32
+    ensures { RouteLeaves file.now choice.now from to result reply.new rows.old rows.new }
+{
+    himalowen::himalowen_route(file, choice, from, to, rows, reply)
+}
+
+#[unsafe(no_mangle)]
+pub extern "C" fn himalowen_plan(
+    file: &[u8],
+    rows: &mut [u32],
+    shores: &mut [u64],
+    weights: &mut [u32],
+    levels: &mut [i32],
+    reply: &mut [u64; 6],
+) -> u32
+    ensures { PlanLeaves file.now result reply.new rows.old rows.new
+        shores.old shores.new weights.old weights.new levels.old levels.new }
+{
+    himalowen::himalowen_plan(file, rows, shores, weights, levels, reply)
+}
