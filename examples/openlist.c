@@ -1,6 +1,6 @@
 /* Plans a hall file and prints the list: openlist HALL
  *
- *     rt staticlib himalowen
+ *     tools/build himalowen
  *     cc -O2 -I include -o openlist examples/openlist.c target/staticlib/libhimalowen.a
  */
 #include <inttypes.h>

@@ -1,4 +1,4 @@
-//! Links libhimalowen.a from the folder in which `rt staticlib himalowen` leaves it, or from HIMALOWEN_LIB.
+//! Links libhimalowen.a from the folder in which `tools/build himalowen` leaves it, or from HIMALOWEN_LIB.
 
 fn main() {
     let built = concat!(env!("CARGO_MANIFEST_DIR"), "/../../target/staticlib");

@@ -1,4 +1,4 @@
-//! Links libtightbench.a from the folder in which `rt staticlib tightbench` leaves it, or from HIMALOWEN_LIB.
+//! Links libtightbench.a from the folder in which `tools/build tightbench` leaves it, or from HIMALOWEN_LIB.
 
 fn main() {
     let built = concat!(env!("CARGO_MANIFEST_DIR"), "/../../target/staticlib");
