@@ -1,5 +1,6 @@
 // Planning: the first joining choice with its cuts and levels, into lent lists of numbers. The promise is in specs/Plan.antt.
 #![tactic(auto)]
+
 ghost use Rattle.std.specs.Prelude.{◌≡◌, true, ◌||◌, List, ℕ, ◌≤◌, eqb, ltb, length};
 ghost use Rattle.hall.specs.File.{hall_in, hall_refusal, refusal};
 ghost use Rattle.hallfile.specs.Record.{record_of};
