@@ -1,5 +1,6 @@
 // Planning with the cuts lent as one list of structs, a junction set and a weight together. The promise is in specs/Lent.antt.
 #![tactic(auto)]
+
 ghost use Rattle.lanes.specs.Lent.{LentSays, Outlined};
 
 use cutlist::{Cut, Lists};
