@@ -1,5 +1,6 @@
 // The calls of the C library, as include/himalowen.h declares them: a reply is an array of numbers, in the order of its fields. `himalowen_c` exports them.
 #![tactic(auto)]
+
 ghost use Rattle.std.specs.Prelude.{◌≡◌};
 ghost use Rattle.himalowen.specs.Replies.{CheckLeaves, TightLeaves, RouteLeaves, PlanLeaves, told_places, routed_places, planned_places};
 
@@ -57,12 +58,7 @@ pub fn himalowen_check(file: &[u8], choice: &[u32], reply: &mut [u64; 4]) -> u32
     refusals::number_of(refusal)
 }
 
-pub fn himalowen_tight(
-    file: &[u8],
-    choice: &[u32],
-    junction: u32,
-    reply: &mut [u64; 4],
-) -> u32
+pub fn himalowen_tight(file: &[u8], choice: &[u32], junction: u32, reply: &mut [u64; 4]) -> u32
     ensures { TightLeaves file.now choice.now junction result reply.new }
 {
     let told = neighbourhood::tight_neighbourhood(file, choice, junction);
