@@ -1,5 +1,6 @@
 // A plan with its cuts lent as structs, into lists that have a mark in every place.
 #![tactic(auto)]
+
 ghost use Rattle.std.specs.Prelude.{◌≤◌};
 
 use cutlist::Cut;

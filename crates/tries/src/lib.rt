@@ -1,5 +1,6 @@
 // Lists that have a mark in every place: a plan into them, whether two such lists agree, and whether the marks still stand.
 #![tactic(auto)]
+
 ghost use Rattle.std.specs.Prelude.{◌≡◌, ◌≤◌, length};
 
 use planning::Planned;

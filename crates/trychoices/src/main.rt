@@ -1,12 +1,13 @@
 // Plans small halls and judges each plan: against every choice, and by its cuts and levels.
 #![tactic(auto)]
+
 mod comparing;
 
 ghost use Rattle.std.specs.Prelude.{◌≤◌};
 
 use comparing::Outcome;
-use libc::STDOUT_FILENO;
 use smallhalls::{Small, drawing};
+use std::io;
 use std::num::wrapping_add_u64;
 
 // Halls whose plan is the first choice, halls rightly refused as unjoined or for a cut of fixed rows, and halls where planner and search differ.
@@ -39,12 +40,12 @@ fn counted(tally: Tally, hall: Small) -> Tally
     next
 }
 
-fn print_tally(tally: Tally) {
-    console::print_item(b" SAME ", tally.same);
-    console::print_item(b" UNJOINED ", tally.unjoined);
-    console::print_item(b" FIXED ", tally.fixed);
-    console::print_item(b" DIFFERENT ", tally.different);
-    io::write_all(STDOUT_FILENO, b"\n");
+fn print_tally(rt: &impl Print, tally: Tally) -> io::Result<()> {
+    console::print_item(rt, " SAME ", tally.same)?;
+    console::print_item(rt, " UNJOINED ", tally.unjoined)?;
+    console::print_item(rt, " FIXED ", tally.fixed)?;
+    console::print_item(rt, " DIFFERENT ", tally.different)?;
+    println!(rt;)
 }
 
 // Every hall of n junctions and a number of rows, fixed or of prices below a bound.
@@ -65,7 +66,7 @@ fn of_size(tally: Tally, n: usize, rows: usize, prices: u64) -> Tally
     next
 }
 
-fn try_all(n: usize, rows: usize, prices: u64)
+fn try_all(rt: &impl Print, n: usize, rows: usize, prices: u64) -> io::Result<()>
     requires { (1 ≤ n) × (n ≤ 6) × (rows ≤ 10) × (1 ≤ prices) × (prices ≤ 255) }
 {
     let mut tally = counted(NONE, smallhalls::without_rows(n));
@@ -74,14 +75,14 @@ fn try_all(n: usize, rows: usize, prices: u64)
         tally = of_size(tally, n, count, prices);
         count += 1;
     }
-    console::print_item(b"EVERY JUNCTIONS ", n as u64);
-    console::print_item(b" ROWS 0 TO ", rows as u64);
-    console::print_item(b" PRICES 0 TO ", prices - 1);
-    io::write_all(STDOUT_FILENO, b" OR FIXED");
-    print_tally(tally);
+    console::print_item(rt, "EVERY JUNCTIONS ", n as u64)?;
+    console::print_item(rt, " ROWS 0 TO ", rows as u64)?;
+    console::print_item(rt, " PRICES 0 TO ", prices - 1)?;
+    print!(rt; " OR FIXED")?;
+    print_tally(rt, tally)
 }
 
-fn try_random(halls: u64, start: u64) {
+fn try_random(rt: &impl Print, halls: u64, start: u64) -> io::Result<()> {
     let mut tally = NONE;
     let mut seed = start;
     let mut k: u64 = 0;
@@ -92,14 +93,14 @@ fn try_random(halls: u64, start: u64) {
         seed = drawn.seed;
         k += 1;
     }
-    console::print_item(b"RANDOM HALLS ", halls);
-    print_tally(tally);
+    console::print_item(rt, "RANDOM HALLS ", halls)?;
+    print_tally(rt, tally)
 }
 
-fn main() {
-    try_all(1, 5, 3);
-    try_all(2, 5, 3);
-    try_all(3, 4, 3);
-    try_all(4, 4, 2);
-    try_random(200_000, 1);
+fn main(rt: HostRuntime) -> io::Result<()> {
+    try_all(&rt, 1, 5, 3)?;
+    try_all(&rt, 2, 5, 3)?;
+    try_all(&rt, 3, 4, 3)?;
+    try_all(&rt, 4, 4, 2)?;
+    try_random(&rt, 200_000, 1)
 }

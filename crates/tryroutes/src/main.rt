@@ -1,6 +1,7 @@
 // Routes of small halls: every choice of every hall of a size, and choices of random halls, between every two junctions and beside them,
 // each held to the first of the shortest sequences of steps.
 #![tactic(auto)]
+
 mod comparing;
 mod walks;
 
@@ -8,8 +9,8 @@ ghost use Rattle.std.specs.Prelude.{◌+◌, ◌<◌, ◌≤◌};
 
 use comparing::Outcome;
 use exhaustive::sets;
-use libc::STDOUT_FILENO;
 use smallhalls::{Small, drawing, file};
+use std::io;
 use std::num::wrapping_add_u64;
 use walks::Asked;
 
@@ -51,14 +52,14 @@ fn counted(tally: Tally, outcome: Outcome) -> Tally {
     next
 }
 
-fn print_tally(tally: Tally) {
-    console::print_item(b" HALLS ", tally.halls);
-    console::print_item(b" CHOICES ", tally.choices);
-    console::print_item(b" ROUTES ", tally.routes);
-    console::print_item(b" MISSES ", tally.misses);
-    console::print_item(b" REFUSED ", tally.refused);
-    console::print_item(b" DIFFERENT ", tally.different);
-    io::write_all(STDOUT_FILENO, b"\n");
+fn print_tally(rt: &impl Print, tally: Tally) -> io::Result<()> {
+    console::print_item(rt, " HALLS ", tally.halls)?;
+    console::print_item(rt, " CHOICES ", tally.choices)?;
+    console::print_item(rt, " ROUTES ", tally.routes)?;
+    console::print_item(rt, " MISSES ", tally.misses)?;
+    console::print_item(rt, " REFUSED ", tally.refused)?;
+    console::print_item(rt, " DIFFERENT ", tally.different)?;
+    println!(rt;)
 }
 
 // Calls from a junction to each one from 0 to n + 1.
@@ -180,7 +181,7 @@ fn with_choices(tally: Tally, hall: Small) -> Tally
 }
 
 // Every hall of n junctions and so many rows, fixed or not, that has a joining choice.
-fn try_all(n: usize, rows: usize)
+fn try_all(rt: &impl Print, n: usize, rows: usize) -> io::Result<()>
     requires { (1 ≤ n) × (n ≤ 6) × (rows ≤ 10) }
 {
     let mut tally = NONE;
@@ -196,9 +197,9 @@ fn try_all(n: usize, rows: usize)
         }
         number += 1;
     }
-    console::print_item(b"EVERY JUNCTIONS ", n as u64);
-    console::print_item(b" ROWS ", rows as u64);
-    print_tally(tally);
+    console::print_item(rt, "EVERY JUNCTIONS ", n as u64)?;
+    console::print_item(rt, " ROWS ", rows as u64)?;
+    print_tally(rt, tally)
 }
 
 // All unfixed rows, and a drawn part of them.
@@ -211,7 +212,7 @@ fn with_drawn(tally: Tally, hall: Small, draw: u64) -> Tally
     with_choice(with_choice(next, hall, unfixed), hall, unfixed & draw)
 }
 
-fn try_random(halls: u64, start: u64) {
+fn try_random(rt: &impl Print, halls: u64, start: u64) -> io::Result<()> {
     let mut tally = NONE;
     let mut seed = start;
     let mut k: u64 = 0;
@@ -224,14 +225,14 @@ fn try_random(halls: u64, start: u64) {
         }
         k += 1;
     }
-    console::print_item(b"RANDOM OF ", halls);
-    print_tally(tally);
+    console::print_item(rt, "RANDOM OF ", halls)?;
+    print_tally(rt, tally)
 }
 
-fn main() {
-    try_all(1, 3);
-    try_all(2, 4);
-    try_all(3, 3);
-    try_all(4, 3);
-    try_random(20_000, 1);
+fn main(rt: HostRuntime) -> io::Result<()> {
+    try_all(&rt, 1, 3)?;
+    try_all(&rt, 2, 4)?;
+    try_all(&rt, 3, 3)?;
+    try_all(&rt, 4, 3)?;
+    try_random(&rt, 20_000, 1)
 }
