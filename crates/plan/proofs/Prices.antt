@@ -97,6 +97,17 @@ module _ (h : Hall) (n m : ℕ) (tails heads prices : List ℕ) (fixed : List Bo
               );
         }
 
+  -- at the ranked costs, from the rows that are not fixed
+  module _ (costs : List ℕ) (filled : Padded 256 (λ k. 257 * charged prices fixed k + 1) m costs) where
+    pub ranked_modest : Modest costs
+    ranked_modest k =
+        by_bool (ltb k m) (λ t. let in_it = ltb-true k m t in omega (arith, filled.first k in_it, charge_most (get_or fixed k false) (get_or prices k 0) (priced k in_it)))
+        (λ t. omega (arith, filled.rest k (ltb-false k m t)))
+
+    pub costs_ranked : (i : ℕ) → 1 ≤ i → i ≤ m → at costs i ≡ ranked h i
+    unfolding ranked
+    costs_ranked i l u = filled.first (i - 1) (omega arith) ∙ ap (λ (x : ℕ). 257 * x + 1) (are_charges i l (omega (arith, rd.columns.rows)))
+
   -- at the ranked costs, from what is least at the charges
   module _ (s : State) (least : Least h s) where
     pub level_low : (k : ℕ) → k < 64 → get_or s.potential k 0 < 2 ^ 32

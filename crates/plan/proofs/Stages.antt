@@ -1,4 +1,4 @@
--- From rows that join to the start of repair, and from its end on. Assumes nothing.
+-- From rows that join to the start of repair, and from its end on: the levels of a choice of least cost are low. Assumes nothing.
 use mathlib.Core.Path.{◌≡◌, ap}
 use mathlib.Core.Bool.{Bool}
 use mathlib.Core.List.{List}
@@ -20,6 +20,28 @@ use Rattle.repair.specs.declared.State.{State}
 use Rattle.repair.specs.Repairs.{RepairStart, RepairEnd}
 use Rattle.pruning.specs.Start.{Among}
 use Rattle.plan.specs.Ready.{Modest, Ready, Cheapest}
+
+module _ (h : Hall) (n m : ℕ) (tails heads costs : List ℕ) (rows : List Bool) (rd : Ready h n m tails heads rows) (ends : Ends n m tails heads) (modest : Modest costs) where
+  -- what the rows cost together
+  rows_low : cost h (at costs) (flagged rows) < 2 ^ 61
+  rows_low =
+      omega (
+        arith,
+        cost_most h (at costs) (flagged rows) (2 ^ 53 - 1) (λ i low high t. omega (arith, modest (i - 1))),
+        rd.columns.rows,
+        ends.few,
+        mul-le-mul_right {m = count h} {n = 256} (2 ^ 53 - 1) (omega (arith, rd.columns.rows, ends.few)),
+      )
+
+  -- no level of a choice of least cost is higher
+  pub cheapest_low : (s : State) → length s.potential ≡ 64 → Cheapest h costs rows s → (j : ℕ) → get_or s.potential j 0 < 2 ^ 61
+  cheapest_low s long least j =
+      by_bool (ltb j 64)
+      (λ t.
+      let e : suc j - 1 ≡ j = omega arith in
+      let here : at s.potential (suc j) ≡ get_or s.potential j 0 = ap (λ (x : ℕ). get_or s.potential x 0) e in
+      omega (arith, least.low (suc j) (omega arith) (ltb-true j 64 t), rows_low))
+      (λ t. omega (arith, get_or-eq_default s.potential 0 {n = j} (omega (arith, long, ltb-false j 64 t))))
 
 -- the potential 0
 module _ (h : Hall) (n m : ℕ) (tails heads costs : List ℕ) (rows chosen : List Bool) (rd : Ready h n m tails heads rows) (ends : Ends n m tails heads)
@@ -54,16 +76,7 @@ module _ (h : Hall) (n m : ℕ) (tails heads costs : List ℕ) (rows chosen : Li
           ranged = rd.ranged;
           repairable = flat_can;
           around = around;
-          bound = λ j l u.
-              omega (
-                arith,
-                zero_level j l u,
-                slack_rows,
-                cost_most h (at costs) (flagged rows) (2 ^ 53 - 1) (λ i low high t. omega (arith, modest (i - 1))),
-                rd.columns.rows,
-                ends.few,
-                mul-le-mul_right {m = count h} {n = 256} (2 ^ 53 - 1) (omega (arith, rd.columns.rows, ends.few)),
-              );
+          bound = λ j l u. omega (arith, zero_level j l u, slack_rows, rows_low h n m tails heads costs rows rd ends modest);
         }
 
     pub flat_end : (s : State) → RepairEnd h (at costs) (at (replicate 64 0)) (at s.potential) (flagged chosen) (flagged s.chosen) s.around → Cheapest h costs rows s

@@ -65,3 +65,30 @@ pub fn first_choice<'a>(
         &state.around,
     )
 }
+
+// From rows that join, at the ranked costs, to the first choice: least total, fewest rows, then dictionary order.
+pub fn first_from_rows<'a>(
+    n: usize,
+    m: usize,
+    tails: &'a [u8; 256],
+    heads: &'a [u8; 256],
+    costs: &'a [u64; 256],
+    rows: [bool; 256],
+) -> [bool; 256]
+    requires { Ends n m tails.now heads.now × Modest costs.now × ((h : Hall) × Ready h n m tails.now heads.now rows) }
+    ensures { (h : Hall) → Ready h n m tails.now heads.now rows → Plannable h →
+        ((i : ℕ) → 1 ≤ i → i ≤ m → at costs.now i ≡ ranked h i) →
+        First h (listed h (flagged result)) }
+{
+    let state = cheapest(n, m, tails, heads, costs, rows);
+    first::decide_all(
+        n,
+        m,
+        tails,
+        heads,
+        costs,
+        &state.chosen,
+        &state.potential,
+        &state.around,
+    )
+}

@@ -1,5 +1,6 @@
 // The rows' call of planning: the first joining choice and its total. The promise, `RowsSays`, is in `oneplan`.
 #![tactic(auto)]
+
 ghost use Rattle.std.specs.Prelude.{◌≡◌, true, List, ℕ, ◌≤◌, eqb, length};
 ghost use Rattle.hall.specs.File.{hall_in, hall_refusal, refusal};
 ghost use Rattle.refusals.specs.Kinds.{refusal_of};
@@ -38,7 +39,7 @@ fn rows_of(hall: HallRecord, rows: &mut [u32]) -> PlannedRows
 {
     let costs = ledger::costs::ranked_costs(hall.count, &hall.prices, &hall.fixed);
     let unfixed = choice::unflagged(&hall.fixed);
-    let first = plan::first_choice(
+    let first = plan::first_from_rows(
         hall.n,
         hall.count,
         &hall.tails,

@@ -1,6 +1,7 @@
 // The cuts' call of planning over two number lists: cuts beside the first joining choice, and the levels. The promise, `PairSays`, is
 // in `oneplan`.
 #![tactic(auto)]
+
 ghost use Rattle.std.specs.Prelude.{◌≡◌, true, ◌||◌, List, ℕ, ◌≤◌, eqb, ltb, length};
 ghost use Rattle.hall.specs.File.{hall_in, hall_refusal, refusal};
 ghost use Rattle.refusals.specs.Kinds.{refusal_of};
