@@ -1,3 +1,4 @@
+-- A turn leaves its row as it is, or changes what the row's decision asks for; after m of them the flags are the first choice. Assumes nothing.
 use mathlib.Core.Bool.{false, not}
 use mathlib.Core.Path.{◌≡◌, refl, ap, ◌∙◌}
 use Prim.Native.Nat.{◌+◌}

@@ -1,3 +1,4 @@
+-- What a turn asks is whether its row may be closed on the way: the first that may is the answer, or m after all of them. Assumes nothing.
 use mathlib.Core.Path.{◌≡◌, sym, ◌∙◌}
 use mathlib.Core.Bool.{false, ◌&&◌}
 use mathlib.Core.List.{[]}

@@ -1,3 +1,4 @@
+-- Each turn makes the arc to y from the junction before it, which is nearer to the start; at the start the route is made whole. Assumes nothing.
 use mathlib.Core.Path.{sym, ◌≡◌}
 use Prim.Native.Nat.{ℕ, ◌≤◌, ◌<◌}
 use native.Mathlib.Omega.{arith}

@@ -1,3 +1,4 @@
+-- Each turn narrows the room by the neighbourhood of one junction more; once none is left it is the most that all of them allow. Assumes nothing.
 use mathlib.Core.Path.{refl}
 use Prim.Native.Nat.{◌-◌}
 use native.Mathlib.Omega.{arith}

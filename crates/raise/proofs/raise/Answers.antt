@@ -1,3 +1,4 @@
+-- Each turn puts in the level of one junction more, which fits a word; after 64 of them all levels are raised. Assumes nothing.
 use mathlib.Core.Path.{refl, sym}
 use native.Mathlib.Omega.{arith}
 use Rattle.raise.proofs.Lifts.{lifted_none, lifted_more, lifted_all}

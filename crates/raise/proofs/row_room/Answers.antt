@@ -1,3 +1,4 @@
+-- Each turn narrows the room by one row more, whose ends are junctions; after m of them it is the most that all rows allow. Assumes nothing.
 use mathlib.Core.Path.{◌≡◌, sym}
 use native.Mathlib.Omega.{arith}
 use Rattle.raise.proofs.Rooms.{rows_room_none, rows_room_more}

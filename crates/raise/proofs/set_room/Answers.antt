@@ -1,3 +1,4 @@
+-- Each turn narrows the room by one junction more; once none is left it is the most that all of them allow. Assumes nothing.
 use Prim.Native.Nat.{◌-◌}
 use native.Mathlib.Omega.{arith}
 use lib.Bits.{and_le_r}

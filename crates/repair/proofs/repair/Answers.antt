@@ -1,3 +1,4 @@
+-- A step keeps what the start promised and takes from the slack, and no level gets too high for the next; where no row is left with a gap the choice is repaired. Assumes nothing.
 use mathlib.Core.Bool.{true}
 use mathlib.Core.Path.{◌≡◌}
 use native.Mathlib.Omega.{arith}

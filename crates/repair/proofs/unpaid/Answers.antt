@@ -1,3 +1,4 @@
+-- What a turn asks is whether its row is chosen and has a gap: the first that is and has is the answer, or m after all of them. Assumes nothing.
 use mathlib.Core.Path.{◌≡◌, sym, ◌∙◌}
 use mathlib.Core.Bool.{false, ◌&&◌}
 use Prim.Native.Nat.{ℕ, suc, ◌+◌, ◌≤◌}

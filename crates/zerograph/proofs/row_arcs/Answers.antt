@@ -1,3 +1,4 @@
+-- Each turn adds the arcs of one row more, whose ends are junctions; once all rows are in, the sets hold the arcs of all. Assumes nothing.
 use mathlib.Core.Path.{◌≡◌, ap, ◌∙◌}
 use mathlib.Core.Bool.{Bool, false, ◌&&◌}
 use Prim.Native.Nat.{ℕ, suc, ◌+◌, ◌≤◌}

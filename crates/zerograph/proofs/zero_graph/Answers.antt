@@ -1,3 +1,4 @@
+-- The rows' arcs are a start; each turn adds the swaps of one junction more, and after n of them the sets are the zero graph. Assumes nothing.
 use native.Mathlib.Omega.{arith}
 use Rattle.laws.specs.Lists.{at}
 use Rattle.leveltable.proofs.Levels.{levels_none}
