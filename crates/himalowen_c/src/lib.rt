@@ -1,5 +1,6 @@
 // The exports of libhimalowen.a, as include/himalowen.h declares them: each is the call of that name in `himalowen`, with its promise.
 #![tactic(auto)]
+
 ghost use Rattle.himalowen.specs.Replies.{CheckLeaves, TightLeaves, RouteLeaves, PlanLeaves};
 
 #[unsafe(no_mangle)]

@@ -1,5 +1,6 @@
 // Tight neighbourhoods for a program that times them: all of a hall's at once, and one by the public call.
 #![tactic(auto)]
+
 ghost use Rattle.std.specs.Prelude.{◌≡◌};
 ghost use Rattle.hall.specs.Hall.{Hall};
 ghost use Rattle.dicuts.specs.Shores.{Ranged, Joining, once};
@@ -10,8 +11,7 @@ ghost use Rattle.neighbourhood.specs.Tight.{TightSays};
 
 use answers::Finding;
 
-#[unsafe(no_mangle)]
-pub extern "C" fn tightbench_all<'a>(
+pub fn tightbench_all<'a>(
     n: usize,
     m: usize,
     tails: &'a [u8; 256],
@@ -25,6 +25,7 @@ pub extern "C" fn tightbench_all<'a>(
     *sets = tight::neighbourhoods(n, m, tails, heads, flags);
 }
 
+#[tactic(auto, unfolding(answers::specs::Answers::set_of))]
 fn set_in(found: Finding) -> u64
     ensures { result ≡ set_of found }
 {
@@ -36,8 +37,7 @@ fn set_in(found: Finding) -> u64
     }
 }
 
-#[unsafe(no_mangle)]
-pub extern "C" fn tightbench_one(file: &[u8], choice: &[u32], junction: u32) -> u64
+pub fn tightbench_one(file: &[u8], choice: &[u32], junction: u32) -> u64
     ensures { (t : Told) × TightSays file.now choice.now junction t × (result ≡ set_of t.found) }
 {
     let told = neighbourhood::tight_neighbourhood(file, choice, junction);
