@@ -1,9 +1,10 @@
 // The bytes of an input, all of them or none: a read that fails is not taken for the end.
 #![tactic(auto)]
 
-ghost use Rattle.std.specs.Prelude.{◌≡◌, ◌<◌, IfOk, IfSome, OnErr, length, take};
+ghost use Rattle.std.specs.Prelude.{◌≡◌, ◌<◌, [], IfOk, length, take, string_bytes, unwrap_or, option_map};
+ghost use Rattle.std.specs.List.{slice_get};
 ghost use Rattle.std.specs.Io.{ReadsAtMost};
-ghost use Rattle.std.specs.Io.KnownBytes.{Consumes, Keeps, IsAtEnd};
+ghost use Rattle.std.specs.Io.KnownBytes.{Consumes, IsAtEnd};
 
 use std::io::{ErrorKind, Read};
 use std::rt::{Env, Files};
@@ -72,7 +73,9 @@ pub fn arguments<R: Env + AllocGlobal>(rt: &R) -> io::Result<Vec<String>> {
 }
 
 // The word at a place, from 0; the empty text where there is none.
-pub fn argument(words: &[String], place: usize) -> &str {
+pub fn argument(words: &[String], place: usize) -> &str
+    ensures { result.now ≡ unwrap_or (option_map string_bytes (slice_get words.now place)) [] }
+{
     match words.get(place) {
         Some(word) => word.as_str(),
         None => "",
