@@ -1,3 +1,4 @@
+-- The goals that `adjacency::of_rows` leaves open, by the laws of filling and the invariant of its loop. Assumes nothing.
 use mathlib.Core.Path.{◌≡◌}
 use Prim.Native.Nat.{◌≤◌}
 use native.Mathlib.Omega.{arith}

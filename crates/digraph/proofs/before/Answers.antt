@@ -1,3 +1,4 @@
+-- The goals that `digraph::before` leaves open, by what is one arc nearer and the invariant of its loop. Assumes nothing.
 use mathlib.Core.Path.{sym, ◌∙◌}
 use Prim.Native.Nat.{◌≤◌}
 use native.Mathlib.Omega.{arith}

@@ -1,3 +1,4 @@
+-- The goals that `digraph::expand` leaves open, by the lowest junction of the rest and the invariant of its loop. Assumes nothing.
 use mathlib.Core.Path.{refl, ◌∙◌}
 use native.Mathlib.Omega.{arith}
 use lib.Count.{trailing_le}

@@ -1,3 +1,4 @@
+-- The goals that `digraph::put_into` leaves open, by the lowest junction of the rest and the invariant of its loop. Assumes nothing.
 use mathlib.Core.Path.{refl, ◌∙◌}
 use Prim.Native.Nat.{◌-◌, ◌^◌, ◌<◌}
 use native.Mathlib.Omega.{arith}

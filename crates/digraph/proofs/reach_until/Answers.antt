@@ -1,3 +1,4 @@
+-- The goals that `digraph::reach_until` leaves open, by the laws of breadth-first search and the invariant of its loop. Assumes nothing.
 use mathlib.Core.Path.{◌≡◌}
 use Prim.Native.Nat.{◌<◌}
 use native.Mathlib.Omega.{arith}

@@ -1,3 +1,4 @@
+-- The goals that `digraph::turned_round` leaves open, by the law of one more junction turned round and the invariant of its loop. Assumes nothing.
 use mathlib.Core.Path.{refl}
 use native.Mathlib.Omega.{arith}
 use Rattle.laws.specs.Lists.{at}

@@ -1,3 +1,4 @@
+-- The goal that `input::read_all` leaves open: one more read goes on from the bytes before. Assumes nothing.
 use Rattle.std.proofs.Common.{rules}
 use Rattle.input.proofs.Filling.{reads_on}
 use Rattle.input.proofs.read_all.Goals as goal

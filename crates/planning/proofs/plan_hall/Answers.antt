@@ -125,7 +125,8 @@ pub total_of-total-requires : goal.total_of-total-requires
 total_of-total-requires c = let s = (goal.at.total_of-total-requires c).Start in ((ends s).few, prices-low s)
 
 pub overflow_cast-result : goal.overflow_cast-result
-overflow_cast-result c = omega (arith, counts-few (goal.at.overflow_cast-result c).After-total_of-total)
+overflow_cast-result c =
+    omega (arith, counts-few (goal.at.overflow_cast-result c).After-total_of-total, (ends (goal.at.overflow_cast-result c).Start).few)
 
 pub overflow_cast-result-2 : goal.overflow_cast-result-2
 overflow_cast-result-2 c = omega (arith, counts-few (goal.at.overflow_cast-result-2 c).After-total_of-total)

@@ -1,3 +1,4 @@
+-- The goals that `tryroutes::walks::first` leaves open, by the bound on how many sequences there are. Assumes nothing.
 use Rattle.std.proofs.Common.{◌≡◌, ℕ, ◌+◌, ◌*◌, ◌^◌, ◌≤◌, mul-le-mul_left, arith, pow_mono, pow-add}
 use Rattle.tryroutes.proofs.walks.first.Goals as goal
 use Rattle.tryroutes.proofs.walks.first.Goals.{Else-found}
