@@ -1,78 +1,75 @@
-// What a call answers of a choice: its refusal, or what it found. The numbers of document 01 are in specs/Answers.antt.
+// What a call answers of a choice. The numbers of document 01 are in specs/Answers.antt.
 #![tactic(auto)]
 
 ghost use Rattle.std.specs.Prelude.{◌≡◌};
-ghost use Rattle.choice.specs.Short.{if_some};
-ghost use Rattle.answers.specs.Answers.{outcome_of, set_of, missing, refused, surrounded};
+ghost use Rattle.choice.specs.Short.{shore_of};
+ghost use Rattle.answers.specs.Answers.{outcome_of, set_of, missing};
 
-use junctions::Junctions;
-use refusals::Kind;
+use junctions::{Junctions, Places};
+use std::fmt;
 
-// What a call found; nothing where it was refused.
-#[derive(Clone, Copy)]
+// What a call found.
+#[derive(Clone, Copy, PartialEq, Eq, Debug)]
 pub enum Finding {
-    Nothing,
     Joins,
     Misses(Junctions),
     Around(Junctions),
 }
 
-#[derive(Clone, Copy)]
-pub struct Told {
-    pub refusal: Kind,
-    pub found: Finding,
-}
-
-impl Told {
-    pub fn refused(refusal: Kind) -> Told
-        ensures { result ≡ refused refusal }
+impl Finding {
+    // The number of what was found: C callers read a number.
+    #[tactic(auto, unfolding(crate::specs::Answers::outcome_of))]
+    pub fn outcome(self) -> u32
+        ensures { result ≡ outcome_of self }
     {
-        Told {
-            refusal,
-            found: Finding::Nothing,
+        match self {
+            Finding::Joins => 1,
+            Finding::Misses(_) => 2,
+            Finding::Around(_) => 3,
         }
     }
 
-    pub fn around(set: Junctions) -> Told
-        ensures { result ≡ surrounded set }
+    // The shore or the neighbourhood, else 0: C callers read a number.
+    #[tactic(auto, unfolding(crate::specs::Answers::set_of))]
+    pub fn set(self) -> u64
+        ensures { result ≡ set_of self }
     {
-        Told {
-            refusal: Kind::None,
-            found: Finding::Around(set),
+        match self {
+            Finding::Joins => 0,
+            Finding::Misses(shore) => shore.0,
+            Finding::Around(set) => set.0,
         }
     }
 }
 
 // Joins for no shore, else misses with it.
-pub fn found_by(shore: u64) -> Finding
-    ensures { result ≡ missing (if_some shore) }
-{
-    if shore == 0 {
-        Finding::Joins
-    } else {
-        Finding::Misses(Junctions(shore))
+impl From<Option<Junctions>> for Finding {
+    ghost from_gives = { λ shore found. found ≡ missing (shore_of shore) };
+
+    #[tactic(auto, unfolding(crate::specs::Answers::missing))]
+    fn from(shore: Option<Junctions>) -> Finding {
+        match shore {
+            None => Finding::Joins,
+            Some(shore) => Finding::Misses(shore),
+        }
     }
 }
 
-// The number of what was found.
-pub fn outcome_of(found: Finding) -> u32
-    ensures { result ≡ outcome_of found }
-{
-    match found {
-        Finding::Nothing => 0,
-        Finding::Joins => 1,
-        Finding::Misses(_) => 2,
-        Finding::Around(_) => 3,
+// A word and the numbers of the junctions in a set, lowest first.
+fn write_set<W: fmt::Write>(f: &mut fmt::Formatter<W>, word: &str, set: Junctions) -> fmt::Result {
+    write!(f, "{word}")?;
+    for place in Places::of(set.0) {
+        write!(f, " {}", place + 1)?;
     }
+    Ok(())
 }
 
-// The shore or the neighbourhood, as a number.
-pub fn set_of(found: Finding) -> u64
-    ensures { result ≡ set_of found }
-{
-    match found {
-        Finding::Misses(shore) => shore.0,
-        Finding::Around(set) => set.0,
-        _ => 0,
+impl fmt::Display for Finding {
+    fn fmt<W: fmt::Write>(&self, f: &mut fmt::Formatter<W>) -> fmt::Result {
+        match self {
+            Finding::Joins => write!(f, "JOINS"),
+            Finding::Misses(shore) => write_set(f, "MISSES", *shore),
+            Finding::Around(set) => write_set(f, "AROUND", *set),
+        }
     }
 }

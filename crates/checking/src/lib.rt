@@ -3,24 +3,15 @@
 
 ghost use Rattle.checking.specs.Check.{CheckSays};
 
-use answers::Told;
+use answers::Finding;
 use refusals::Kind;
 
 // Whether a choice joins: refusals 2 to 9, 15 and 10 in their order, "joins", or "misses" with the set that the lowest
 // junction that does not reach all reaches.
-pub fn check_choice(file: &[u8], choice: &[u32]) -> Told
+pub fn check_choice(file: &[u8], choice: &[u32]) -> Result<Finding, Kind>
     ensures { CheckSays file.now choice.now result }
 {
-    let opened = opening::open_choice(file, choice);
-    let refusal = opened.refusal;
-    if !refusal.is_none() {
-        return Told::refused(refusal);
-    }
-    let hall = opened.hall;
-    let chosen = opened.chosen;
-    let shore = choice::missed_shore(hall.n, hall.count, &hall.tails, &hall.heads, &chosen);
-    Told {
-        refusal: Kind::None,
-        found: answers::found_by(shore),
-    }
+    let opened = opening::open_choice(file, choice)?;
+    let shore = choice::missed_shore(&opened.hall.lanes, &opened.chosen);
+    Ok(Finding::from(shore))
 }

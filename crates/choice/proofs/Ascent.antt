@@ -1,5 +1,5 @@
 -- Ascending lists place by place: what is left of the test, the range of each number, the members of a beginning. Assumes nothing.
-use mathlib.Core.Path.{◌≡◌, refl, sym, ap, ◌∙◌}
+use mathlib.Core.Path.{◌≡◌, refl, sym, ◌∙◌}
 use mathlib.Core.Bool.{Bool, true, false, ◌||◌, or-true, or-false}
 use mathlib.Core.List.{List, [], ◌∷◌, ◌++◌}
 use Prim.Native.Nat.{ℕ, zero, suc, ◌+◌, ◌<◌, ◌≤◌}
@@ -7,7 +7,7 @@ use native.Mathlib.Numerals.{add-one}
 use native.Mathlib.Omega.{arith}
 use lib.Dec.{eqb}
 use lib.ListN.{length, get_or, take, drop, set, length-set, replicate, length-replicate, get_or-replicate, drop_of_length-le}
-use lib.Seq.{drop-cons, take-suc, take_all, get_or-set_same, get_or-set_other}
+use lib.Seq.{drop-cons, take-suc, get_or-set_same, get_or-set_other}
 use borrow.Author.Tests.{le-leb, lt-leb, eq-eqb, ne_eqb, eqb-true, eqb-false}
 use Rattle.laws.proofs.Booleans.{by_bool}
 use Rattle.hall.specs.Hall.{ascends_from, member}
@@ -62,9 +62,6 @@ flagged_more ns k i f h l e g = record { len = length-set f i true ∙ g.len; at
         rw (add-one, take-suc ns k 0 h, member_snoc) (rw (q, get_or-set_same f i true false (omega (arith, g.len)), sym e, eq-eqb (suc i) (suc i) refl) (sym (or-true (member (suc i) (take k ns))))))
         (λ t. let q = eqb-false j i t in
         rw (add-one, take-suc ns k 0 h, member_snoc) (rw (get_or-set_other f i j true false q, sym e, ne_eqb (suc i) (suc j) (λ z. q (omega arith)), g.at j m) (sym (or-false (member (suc j) (take k ns))))))
-
-pub flagged_all : (ns : List ℕ) (k : ℕ) (f : List Bool) → length ns ≤ k → Flagged ns k f → (j : ℕ) → j < 256 → get_or f j false ≡ member (suc j) ns
-flagged_all ns k f h g j m = g.at j m ∙ ap (member (suc j)) (take_all k ns h)
 
 -- a wider limit
 pub ascends_wider : (a l m : ℕ) (ns : List ℕ) → l ≤ m → ascends_from a l ns ≡ true → ascends_from a m ns ≡ true

@@ -1,8 +1,8 @@
 -- The search for a junction that does not reach all, step by step, and that it finds what document 03's `missed` says. Assumes nothing.
 use mathlib.Core.Path.{◌≡◌, refl, sym, ap, ◌∙◌, subst}
-use mathlib.Core.Bool.{Bool, true}
+use mathlib.Core.Bool.{Bool, true, cond}
 use mathlib.Core.List.{List}
-use mathlib.Core.Option.{some}
+use mathlib.Core.Option.{none, some}
 use Prim.Native.Nat.{ℕ, zero, suc, ◌+◌, ◌-◌, ◌^◌, ◌<◌, ◌≤◌}
 use native.Mathlib.Numerals.{add-one}
 use native.Mathlib.Omega.{arith}
@@ -23,12 +23,12 @@ use Rattle.digraph.proofs.Same.{reach_same}
 use Rattle.hall.specs.Hall.{Hall, member, reached, first_short, missed}
 use Rattle.dicuts.specs.Shores.{Ranged}
 use Rattle.dicuts.specs.Arcs.{arc, arcs}
-use Rattle.columns.specs.Columns.{Columns, Arcs, flagged}
+use Rattle.columns.specs.Columns.{Arcs, flagged}
+use Rattle.columns.specs.Lanes.{LanesOf}
+use Rattle.columns.specs.declared.Lanes.{Lanes}
 use Rattle.adjacency.proofs.Arcs.{arcs_ext}
 use Rattle.joining.proofs.Reached.{reached_is, reached_lt}
-use Rattle.junctions.proofs.Members.{holds_some}
-use Rattle.joining.proofs.Joins.{reached_start}
-use Rattle.choice.specs.Short.{ArcsInside, short_from, if_some}
+use Rattle.choice.specs.Short.{ArcsInside, short_from}
 
 module _ (all : ℕ) (f : ℕ → ℕ) (n : ℕ) where
   pub short_more : (j : ℕ) → j < n → f (suc j) ≡ all → short_from (n - j) (suc j) all f ≡ short_from (n - (j + 1)) (suc (j + 1)) all f
@@ -37,11 +37,11 @@ module _ (all : ℕ) (f : ℕ → ℕ) (n : ℕ) where
       let m : n - j ≡ suc (n - (j + 1)) = omega arith in
       rw (m, eq-eqb (f (suc j)) all e) (ap (λ (i : ℕ). short_from (n - (j + 1)) (suc i) all f) (sym (add-one j)))
 
-  pub short_stop : (j : ℕ) → j < n → (f (suc j) ≡ all → ⊥) → short_from (n - j) (suc j) all f ≡ f (suc j)
+  pub short_stop : (j : ℕ) → j < n → (f (suc j) ≡ all → ⊥) → short_from (n - j) (suc j) all f ≡ some (f (suc j))
   unfolding short_from
   short_stop j h e = let m : n - j ≡ suc (n - (j + 1)) = omega arith in rw (m, ne_eqb (f (suc j)) all e)
 
-  pub short_end : (j i : ℕ) → n ≤ j → short_from (n - j) i all f ≡ 0
+  pub short_end : (j i : ℕ) → n ≤ j → short_from (n - j) i all f ≡ none
   unfolding short_from
   short_end j i h = let m : n - j ≡ 0 = omega arith in rw m
 
@@ -103,35 +103,29 @@ module _ (h : Hall) (rg : Ranged h) (c : List ℕ) (out : ℕ → ℕ) (same : (
       (closure_reach h.n out (2 ^ (j - 1)) few inside)
       (reach_same h.n (arcs h (λ i. member i c)) out (λ i p q. sym (same i p q)) (2 ^ (j - 1)) (reached h c j) (reached_is h rg c j l m))
 
-  found_from : (k j : ℕ) → 1 ≤ j → j + k ≤ h.n + 1 → if_some (short_from k j (full h.n) (λ i. closure h.n out (2 ^ (i - 1)))) ≡ first_short k j h c
-  unfolding if_some short_from first_short full
+  found_from : (k j : ℕ) → 1 ≤ j → j + k ≤ h.n + 1 → short_from k j (full h.n) (λ i. closure h.n out (2 ^ (i - 1))) ≡ first_short k j h c
+  unfolding short_from first_short full
   found_from zero j l m = refl
   found_from (suc k) j l m =
-      rw (closure-reached j l (omega arith))
-      (by_bool (eqb (reached h c j) (2 ^ h.n - 1)) (λ e. rw e (found_from k (suc j) (omega arith) (omega arith)))
-      (λ e. rw e (if_positive (reached h c j) (holds_some (reached h c j) j (reached_start h rg c j l (omega arith))))))
-    where
-      if_positive : (s : ℕ) → 0 < s → if_some s ≡ some s
-      if_positive zero p = absurd (omega arith)
-      if_positive (suc s) p = refl
+      rw (closure-reached j l (omega arith)) (ap (λ r. cond (eqb (reached h c j) (2 ^ h.n - 1)) r (some (reached h c j))) (found_from k (suc j) (omega arith) (omega arith)))
 
-  pub found_missed : if_some (short_from h.n 1 (full h.n) (λ i. closure h.n out (2 ^ (i - 1)))) ≡ missed h c
+  pub found_missed : short_from h.n 1 (full h.n) (λ i. closure h.n out (2 ^ (i - 1))) ≡ missed h c
   unfolding missed
   found_missed = found_from h.n 1 (omega arith) (omega arith)
 
 -- over arrays: the code's adjacency stays inside the hall, and what it finds is missed
-module _ (h : Hall) (n m : ℕ) (tails heads : List ℕ) (cols : Columns h n m tails heads) (flags : List Bool) (sets : List ℕ) (is_arcs : Arcs h (flagged flags) sets) where
-  pub arcs-inside : ArcsInside n (at sets)
+module _ (h : Hall) (l : Lanes) (lanes_of : LanesOf h l) (flags : List Bool) (sets : List ℕ) (is_arcs : Arcs h (flagged flags) sets) where
+  pub arcs-inside : ArcsInside l.n (at sets)
   unfolding ArcsInside Arcs arcs
-  arcs-inside j l u =
-      let e : at sets j ≡ arcs h (flagged flags) j = is_arcs j l (omega (arith, cols.junctions)) in
+  arcs-inside j u v =
+      let e : at sets j ≡ arcs h (flagged flags) j = is_arcs j u (omega (arith, lanes_of.junctions)) in
       let small : arcs h (flagged flags) j < 2 ^ h.n = gather_lt h.n (arc h (flagged flags) j) in
-      omega (arith, e, small, ap (λ (k : ℕ). 2 ^ k) cols.junctions)
+      omega (arith, e, small, ap (λ (k : ℕ). 2 ^ k) lanes_of.junctions)
 
-  pub arcs-missed : (c : List ℕ) → Ranged h → ((i : ℕ) → 1 ≤ i → i ≤ m → flagged flags i ≡ member i c) → (r : ℕ)
-      → r ≡ short_from n 1 (full n) (λ j. closure n (at sets) (2 ^ (j - 1))) → if_some r ≡ missed h c
+  pub arcs-missed : (c : List ℕ) → Ranged h → ((i : ℕ) → 1 ≤ i → i ≤ l.count → flagged flags i ≡ member i c)
+      → short_from l.n 1 (full l.n) (λ j. closure l.n (at sets) (2 ^ (j - 1))) ≡ missed h c
   unfolding Arcs
-  arcs-missed c rg same r e =
-      ap if_some (e ∙ ap (λ (k : ℕ). short_from k 1 (full k) (λ j. closure k (at sets) (2 ^ (j - 1)))) (sym cols.junctions))
+  arcs-missed c rg same =
+      ap (λ (k : ℕ). short_from k 1 (full k) (λ j. closure k (at sets) (2 ^ (j - 1)))) (sym lanes_of.junctions)
       ∙ found_missed h rg c (at sets)
-      (λ j l u. is_arcs j l u ∙ arcs_ext h (flagged flags) (λ i. member i c) (λ i p q. same i p (omega (arith, cols.rows))) j)
+      (λ j u v. is_arcs j u v ∙ arcs_ext h (flagged flags) (λ i. member i c) (λ i p q. same i p (omega (arith, lanes_of.rows))) j)

@@ -8,9 +8,11 @@ ghost use Rattle.junctions.specs.Sets.{full};
 ghost use Rattle.digraph.specs.Closure.{closure};
 ghost use Rattle.hall.specs.Hall.{Hall, count, ascends_from, is_choice, member, missed};
 ghost use Rattle.dicuts.specs.Shores.{Ranged};
-ghost use Rattle.columns.specs.Columns.{Ends, Columns, Marks, flagged};
-ghost use Rattle.choice.specs.Short.{ArcsInside, short_from, if_some};
+ghost use Rattle.columns.specs.Columns.{Marks, flagged};
+ghost use Rattle.columns.specs.Lanes.{LanesOf};
+ghost use Rattle.choice.specs.Short.{ArcsInside, short_from, shore_of};
 
+use columns::Lanes;
 use junctions::Junctions;
 
 // The numbers ascend strictly from 1 up to the limit.
@@ -18,18 +20,12 @@ fn ascends(numbers: &[u32], limit: u32) -> bool
     requires { limit ≤ 256 }
     ensures { result ≡ ascends_from 1 limit numbers.now }
 {
-    let mut least: u32 = 1;
-    let mut k: usize = 0;
-    while k < numbers.len() {
-        let number = numbers[k];
-        if number < least {
-            return false;
-        }
-        if limit < number {
+    let mut least = 1;
+    for &number in numbers {
+        if number < least || limit < number {
             return false;
         }
         least = number + 1;
-        k += 1;
     }
     true
 }
@@ -40,11 +36,8 @@ pub fn flags(numbers: &[u32]) -> [bool; 256]
     ensures { (length result ≡ 256) × ((k : ℕ) → k < 256 → get_or result k false ≡ member (suc k) numbers.now) }
 {
     let mut chosen = [false; 256];
-    let mut k: usize = 0;
-    while k < numbers.len() {
-        let i = numbers[k] as usize;
-        chosen[i - 1] = true;
-        k += 1;
+    for &number in numbers {
+        chosen[number as usize - 1] = true;
     }
     chosen
 }
@@ -54,13 +47,10 @@ fn none_flagged(numbers: &[u32], flags: &[bool; 256]) -> bool
     requires { ascends_from 1 256 numbers.now ≡ true }
     ensures { result ≡ all_in (λ (i : ℕ). not (flagged flags.now i)) numbers.now }
 {
-    let mut k: usize = 0;
-    while k < numbers.len() {
-        let i = numbers[k] as usize;
-        if flags[i - 1] {
+    for &number in numbers {
+        if flags[number as usize - 1] {
             return false;
         }
-        k += 1;
     }
     true
 }
@@ -70,71 +60,47 @@ pub fn is_choice(numbers: &[u32], rows: u32, fixed: &[bool; 256]) -> bool
     requires { rows ≤ 256 }
     ensures { (h : Hall) → count h ≡ rows → Marks h fixed.now → result ≡ is_choice h numbers.now }
 {
-    if !ascends(numbers, rows) {
-        return false;
-    }
-    none_flagged(numbers, fixed)
+    ascends(numbers, rows) && none_flagged(numbers, fixed)
 }
 
 // Some row is flagged.
 pub fn any_flagged(flags: &[bool; 256]) -> bool
     ensures { result ≡ any_below 256 (λ (k : ℕ). get_or flags.now k false) }
 {
-    let mut any = false;
-    let mut k: usize = 0;
-    while k < 256 {
-        any = any | flags[k];
-        k += 1;
-    }
-    any
+    flags.iter().any(|flag| *flag)
 }
 
 // The rows that are not flagged, flagged.
 pub fn unflagged(flags: &[bool; 256]) -> [bool; 256]
     ensures { (length result ≡ 256) × ((k : ℕ) → k < 256 → get_or result k false ≡ not (get_or flags.now k false)) }
 {
-    let mut others = [false; 256];
-    let mut k: usize = 0;
-    while k < 256 {
-        others[k] = !flags[k];
-        k += 1;
-    }
-    others
+    flags.map(|flag| !flag)
 }
 
-// What the lowest of the junctions 1 to n that does not reach all reaches; 0 where each reaches all.
+// What the lowest of the junctions 1 to n that does not reach all reaches; none where each reaches all.
 // The junctions before one are known to reach all: a search that meets one of them need not go on.
-pub fn shortfall(adjacency: &[u64; 64], n: usize) -> u64
+pub fn shortfall(adjacency: &[u64; 64], n: usize) -> Option<Junctions>
     requires { (n ≤ 64) × ArcsInside n (at adjacency.now) }
-    ensures { result ≡ short_from n 1 (full n) (λ (j : ℕ). closure n (at adjacency.now) (2 ^ (j - 1))) }
+    ensures { shore_of result ≡ short_from n 1 (full n) (λ (j : ℕ). closure n (at adjacency.now) (2 ^ (j - 1))) }
 {
     let all = Junctions::full(n).0;
-    let mut distances = [0u8; 64];
-    let mut j: usize = 0;
-    while j < n {
+    for j in 0..n {
         let here: u64 = 1 << j;
         let known = here - 1;
-        let reached = digraph::reach_until(adjacency, j + 1, 0, known, &mut distances);
+        let reached = digraph::reach_until(adjacency, j + 1, 0, known).set;
         if reached & known == 0 && reached != all {
-            return reached;
+            return Some(Junctions(reached));
         }
-        j += 1;
     }
-    0
+    None
 }
 
-// The shore that a choice of a hall's rows misses; 0 where it joins.
-pub fn missed_shore<'a>(
-    n: usize,
-    m: usize,
-    tails: &'a [u8; 256],
-    heads: &'a [u8; 256],
-    chosen: &'a [bool; 256],
-) -> u64
-    requires { Ends n m tails.now heads.now × ((h : Hall) × Columns h n m tails.now heads.now) }
-    ensures { (h : Hall) (c : List ℕ) → Columns h n m tails.now heads.now → Ranged h
-        → ((i : ℕ) → 1 ≤ i → i ≤ m → flagged chosen.now i ≡ member i c) → if_some result ≡ missed h c }
+// The shore that a choice of a hall's rows misses; none where it joins.
+pub fn missed_shore(lanes: &Lanes, chosen: &[bool; 256]) -> Option<Junctions>
+    requires { (h : Hall) × LanesOf h lanes.now }
+    ensures { (h : Hall) (c : List ℕ) → LanesOf h lanes.now → Ranged h
+        → ((i : ℕ) → 1 ≤ i → i ≤ lanes.now.count → flagged chosen.now i ≡ member i c) → shore_of result ≡ missed h c }
 {
-    let arcs = adjacency::of_rows(n, m, tails, heads, chosen);
-    shortfall(&arcs, n)
+    let arcs = adjacency::of_rows(lanes, chosen);
+    shortfall(&arcs, lanes.n)
 }

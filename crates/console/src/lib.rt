@@ -1,123 +1,61 @@
 // What the programs share: numbers from text, and the lines that they print.
 #![tactic(auto)]
 
-ghost use Rattle.std.specs.Prelude.{◌≤◌};
+ghost use Rattle.std.specs.Prelude.{◌≡◌, unwrap_or, slice_get};
 
-use answers::{Finding, Told};
-use junctions::Junctions;
+use arrayvec::ArrayVec;
+use std::fmt::Display;
 use std::io;
 
-// Numbers as they are read from text: those that are done, and the digits of the next.
-#[derive(Clone, Copy)]
-pub struct Numbers {
-    pub list: [u32; 257],
-    pub count: usize,
-    value: u32,
-    started: bool,
-}
-
-// A number that is done goes into the list. Those after the first 257 are left out: 257 are no choice already.
-fn ended(numbers: Numbers) -> Numbers
-    requires { numbers.count ≤ 257 }
-    ensures { result.count ≤ 257 }
-{
-    if !numbers.started {
-        return numbers;
-    }
-    let mut next = numbers;
-    if next.count < 257 {
-        let at = next.count;
-        next.list[at] = next.value;
-        next.count = at + 1;
-    }
-    next.value = 0;
-    next.started = false;
-    next
-}
-
 // A digit that would make its number more than 4,294,967,295 is left out.
-fn with_byte(numbers: Numbers, byte: u8) -> Numbers
-    requires { numbers.count ≤ 257 }
-    ensures { result.count ≤ 257 }
-{
-    if byte < b'0' {
-        return ended(numbers);
-    }
-    if b'9' < byte {
-        return ended(numbers);
-    }
-    let mut next = numbers;
-    let longer = 10 * (next.value as u64) + ((byte - b'0') as u64);
-    if longer <= 4_294_967_295 {
-        next.value = longer as u32;
-    }
-    next.started = true;
-    next
+fn with_digit(number: u32, digit: u32) -> u32 {
+    number
+        .checked_mul(10)
+        .and_then(|tens| tens.checked_add(digit))
+        .unwrap_or(number)
 }
 
-// The numbers that stand in a text, whatever stands between them.
-pub fn numbers_in(text: &[u8]) -> Numbers
-    ensures { result.count ≤ 257 }
-{
-    let mut numbers = Numbers {
-        list: [0; 257],
-        count: 0,
-        value: 0,
-        started: false,
-    };
-    for byte in text {
-        numbers = with_byte(numbers, *byte);
-    }
-    ended(numbers)
+fn number_of(digits: &[u8]) -> u32 {
+    digits
+        .iter()
+        .filter_map(|digit| char::from(*digit).to_digit(10))
+        .fold(0, with_digit)
 }
 
-// A word and the number after it.
-pub fn print_item(rt: &impl Print, word: &str, number: u64) -> io::Result<()> {
-    print!(rt; "{word}{number}")
-}
-
-fn print_set(rt: &impl Print, word: &str, set: Junctions) -> io::Result<()> {
-    print!(rt; "{word}")?;
-    for j in 1..65 {
-        if set.holds(j) {
-            print_item(rt, " ", j as u64)?;
+// The numbers that stand in a text, whatever stands between them. Those after the first 257 are left out: 257 are no choice already.
+pub fn numbers_in(text: &[u8]) -> ArrayVec<u32, 257> {
+    let mut numbers = ArrayVec::new();
+    for digits in text.split(|byte| !byte.is_ascii_digit()) {
+        if !digits.is_empty() && !numbers.is_full() {
+            numbers.push(number_of(digits));
         }
     }
-    println!(rt;)
+    numbers
 }
 
-fn print_refusal(rt: &impl Print, number: u32, row: u32) -> io::Result<()> {
-    println!(rt; "REFUSED {number} {row}")
+// The first of numbers; 0, which the calls refuse as they refuse any number that is no junction, where there is none.
+pub fn first_of(numbers: &[u32]) -> u32
+    ensures { result ≡ unwrap_or (slice_get numbers.now 0) 0 }
+{
+    numbers.first().copied().unwrap_or(0)
 }
 
-fn print_found(rt: &impl Print, found: Finding) -> io::Result<()> {
-    match found {
-        Finding::Nothing => Ok(()),
-        Finding::Joins => println!(rt; "JOINS"),
-        Finding::Misses(shore) => print_set(rt, "MISSES", shore),
-        Finding::Around(set) => print_set(rt, "AROUND", set),
+// A reply's line, that of its refusal where it has one.
+pub fn print_reply<T: Display + Drop, E: Display + Drop>(
+    rt: &impl Print,
+    reply: Result<T, E>,
+) -> io::Result<()> {
+    match reply {
+        Ok(found) => println!(rt; "{found}"),
+        Err(refusal) => println!(rt; "{refusal}"),
     }
-}
-
-// A refusal's line, or that of what was found.
-pub fn print_told(rt: &impl Print, told: Told) -> io::Result<()> {
-    let refusal = told.refusal;
-    if refusal.is_none() {
-        return print_found(rt, told.found);
-    }
-    print_refusal(rt, refusals::number_of(refusal), refusals::row_of(refusal))
-}
-
-// A number with a space before it, and a minus where it is below 0.
-fn print_signed(rt: &impl Print, number: i32) -> io::Result<()> {
-    print!(rt; " {number}")
 }
 
 // The line of a route: the first numbers of a list, as many as said and as it has.
 pub fn print_route(rt: &impl Print, rows: &[i32], count: usize) -> io::Result<()> {
     print!(rt; "ROUTE")?;
     for row in rows.iter().take(count) {
-        print_signed(rt, *row)?;
+        print!(rt; " {row}")?;
     }
     println!(rt;)
 }

@@ -1,8 +1,7 @@
 -- Lent cuts, as the cuts beside a plan and as two lists of numbers hold them. Assumes nothing: these are definitions.
-use Rattle.std.specs.Prelude.{List, [], ◌∷◌, map, ℕ, zero, suc, get_or}
+use Rattle.std.specs.Prelude.{List, [], ◌∷◌, map, ℕ}
 use Rattle.hall.specs.Plan as plan
 use Rattle.cutlist.specs.declared.Cut.{Cut}
-use Rattle.cutlist.specs.declared.Lists.{Lists}
 
 -- a lent cut from its two numbers
 abbrev pub lent_cut : (shore weight : ℕ) → Cut
@@ -20,11 +19,8 @@ cut_of c = plan.cut c.shore.0 c.weight
 unfoldable pub cuts_of : List Cut → List plan.Cut
 cuts_of cs = map cut_of cs
 
--- the cut at a place of the two lists
-abbrev pub listed_cut : Lists → ℕ → Cut
-listed_cut l k = lent_cut (get_or l.shores k 0) (get_or l.weights k 0)
-
--- the next `left` cuts of the two lists from place k on
-unfoldable pub cuts_from : Lists → (k left : ℕ) → List Cut
-cuts_from l k zero = []
-cuts_from l k (suc n) = listed_cut l k ∷ cuts_from l (suc k) n
+-- the lent cuts of a list of shores and a list of weights
+unfoldable pub lent_cuts : (shores weights : List ℕ) → List Cut
+lent_cuts [] ws = []
+lent_cuts (s ∷ ss) [] = []
+lent_cuts (s ∷ ss) (w ∷ ws) = lent_cut s w ∷ lent_cuts ss ws

@@ -1,43 +1,29 @@
 // Cuts in a lent list: a junction set and a weight together.
 #![tactic(auto)]
 
-ghost use Rattle.std.specs.Prelude.{◌≡◌, ◌≤◌, ◌<◌, ◌++◌, length, drop};
-ghost use Rattle.cutlist.specs.Cuts.{listed_cut, cuts_from};
+ghost use Rattle.std.specs.Prelude.{◌≡◌, ◌≤◌, length};
+ghost use Rattle.laws.specs.Lists.{in_front};
+ghost use Rattle.cutlist.specs.Cuts.{lent_cuts};
 
 use junctions::Junctions;
 
-#[derive(Clone, Copy)]
+#[derive(Clone, Copy, PartialEq, Eq, Debug)]
 pub struct Cut {
     pub shore: Junctions,
     pub weight: u32,
 }
 
-// Cuts as a list of shores and a list of weights.
-#[derive(Clone, Copy)]
-pub struct Lists {
-    pub shores: [u64; 125],
-    pub weights: [u32; 125],
-}
-
-// One cut of the two lists.
-pub fn cut_at(lists: Lists, k: usize) -> Cut
-    requires { k < 125 }
-    ensures { result ≡ listed_cut lists k }
+// The cuts of a list of shores and a list of weights fill the first places; the others are as they were.
+pub fn write_cuts(cuts: &mut [Cut], shores: &[u64], weights: &[u32])
+    requires pairs { length shores.now ≡ length weights.now }
+    requires room { length shores.now ≤ length cuts.old }
+    ensures { cuts.new ≡ in_front (lent_cuts shores.now weights.now) cuts.old }
 {
-    Cut {
-        shore: Junctions(lists.shores[k]),
-        weight: lists.weights[k],
-    }
-}
-
-// The first cuts of the two lists fill the first places; the others are as they were.
-pub fn write_cuts(cuts: &mut [Cut], lists: Lists, count: usize)
-    requires { (count ≤ 125) × (count ≤ length cuts.old) }
-    ensures { cuts.new ≡ cuts_from lists 0 count ++ drop count cuts.old }
-{
-    let mut k: usize = 0;
-    while k < count {
-        cuts[k] = cut_at(lists, k);
-        k += 1;
+    // By the place: with `iter_mut` in a zip the proof did not close, as nothing is known of the slice after it.
+    for k in 0..shores.len() {
+        cuts[k] = Cut {
+            shore: Junctions(shores[k]),
+            weight: weights[k],
+        };
     }
 }

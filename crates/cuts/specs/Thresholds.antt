@@ -1,5 +1,5 @@
 -- The next value of a potential, which junctions are mates by their sets, and what its upper sets weigh. Assumes nothing: these are definitions.
-use Rattle.std.specs.Prelude.{◌≡◌, ◌||◌, ℕ, suc, ◌≤◌, ◌<◌}
+use Rattle.std.specs.Prelude.{◌≡◌, ◌||◌, ℕ, suc, ◌≤◌, ◌<◌, Option, Some, None}
 use Rattle.laws.specs.Finite.{sum_below}
 use Rattle.junctions.specs.Sets.{holds, gather}
 use Rattle.certificates.specs.Cuts.{upper}
@@ -15,6 +15,11 @@ pub record NextValue (n : ℕ) (p : ℕ → ℕ) (low next : ℕ) : Type 0 where
   pub none : next ≡ low → (j : ℕ) → 1 ≤ j → j ≤ n → p j ≤ low
   pub least : (j : ℕ) → 1 ≤ j → j ≤ n → low < p j → next ≤ p j
   pub taken : low < next → (j : ℕ) × (1 ≤ j) × (j ≤ n) × (p j ≡ next)
+
+-- the next value over `low`, where p takes one
+unfoldable pub NextFound : (n : ℕ) → (p : ℕ → ℕ) → (low : ℕ) → Option ℕ → Type 0
+NextFound n p low None = NextValue n p low low
+NextFound n p low (Some next) = (low < next) × NextValue n p low next
 
 -- no junction of 1 to n has a potential over the top
 unfoldable pub UnderTop : (n : ℕ) → (p : ℕ → ℕ) → (top : ℕ) → Type 0

@@ -16,11 +16,12 @@ ghost use Rattle.cuts.specs.Thresholds.{UnderTop};
 ghost use Rattle.cuts.specs.Filled.{FilledWith};
 
 // The cuts of the potential and the levels of the junctions. Returns how many cuts there are.
-pub fn fill<'a>(
+// The three lent lists are parameters, as the calls of the C interface have them.
+pub fn fill(
     n: usize,
-    links: &'a [u64; 64],
-    around: &'a [u64; 64],
-    potential: &'a [u64; 64],
+    links: &[u64; 64],
+    around: &[u64; 64],
+    potential: &[u64; 64],
     shores: &mut [u64],
     weights: &mut [u32],
     levels: &mut [i32],
@@ -32,6 +33,6 @@ pub fn fill<'a>(
         × Levelled (cuts h (once F) (at potential.now) top) n levels.old levels.new }
 {
     let count = thresholds::fill(n, links, around, potential, shores, weights);
-    levels::fill(n, shores, weights, count, levels);
+    levels::fill(n, &shores[..count], &weights[..count], levels);
     count
 }

@@ -14,11 +14,12 @@ use crate::sets;
 use setshores::add_classes;
 
 // Adds the shores of every threshold, each with its weight. Returns how many places are filled.
-pub fn add_thresholds<'a, 'b>(
+// The lent columns are parameters as in `shorelist`, for the reason given there.
+pub fn add_thresholds(
     n: usize,
-    links: &'a [u64; 64],
-    mates: &'b [u64; 64],
-    potential: &'a [u64; 64],
+    links: &[u64; 64],
+    mates: &[u64; 64],
+    potential: &[u64; 64],
     shores: &mut [u64],
     weights: &mut [u32],
 ) -> usize
@@ -27,13 +28,9 @@ pub fn add_thresholds<'a, 'b>(
     ensures { (top : ℕ) → UnderTop n (at potential.now) top →
         Added 0 shores.old weights.old (levels_weigh n (at links.now) (at mates.now) (at potential.now) top) result shores.new weights.new }
 {
-    let mut low: u64 = 0;
-    let mut filled: usize = 0;
-    loop {
-        let next = sets::next_value(potential, n, low);
-        if next == low {
-            return filled;
-        }
+    let mut low = 0;
+    let mut filled = 0;
+    while let Some(next) = sets::next_value(potential, n, low) {
         let set = sets::upper_set(potential, n, next);
         filled = add_classes(
             n,
@@ -47,14 +44,15 @@ pub fn add_thresholds<'a, 'b>(
         );
         low = next;
     }
+    filled
 }
 
 // The cuts of the potential, by shore, into the first places. Returns how many there are.
-pub fn fill<'a>(
+pub fn fill(
     n: usize,
-    links: &'a [u64; 64],
-    around: &'a [u64; 64],
-    potential: &'a [u64; 64],
+    links: &[u64; 64],
+    around: &[u64; 64],
+    potential: &[u64; 64],
     shores: &mut [u64],
     weights: &mut [u32],
 ) -> usize

@@ -6,7 +6,7 @@ use mathlib.Core.Logic.{⊎_elim}
 use Prim.Native.Nat.{ℕ, ◌+◌, ◌-◌, ◌*◌, ◌%◌, ◌^◌, ◌≤◌, ◌<◌}
 use native.Mathlib.Numerals.{add-one}
 use native.Mathlib.Omega.{arith}
-use lib.Bits.{bit_and, bit_or, bit_xor, xor_lt, and_le_l}
+use lib.Bits.{bit_and, bit_or, or_lt, and_le_l}
 use lib.Dec.{eqb}
 use lib.ListN.{length}
 use lib.Pow.{pow-lt}
@@ -17,6 +17,7 @@ use Rattle.junctions.specs.Sets.{holds}
 use Rattle.junctions.proofs.Bits.{one_shl}
 use Rattle.junctions.proofs.Bounds.{junction_le}
 use Rattle.junctions.proofs.Sets.{and_holds, or_holds, less_holds, none_holds, some_junction}
+use Rattle.junctions.proofs.Without.{without}
 use Rattle.digraph.specs.Closure.{arc_from}
 use Rattle.digraph.specs.Distances.{distances}
 use Rattle.digraph.specs.Search.{avoiding, Searched}
@@ -85,14 +86,14 @@ module _ (out : ℕ → ℕ) (start set goal : ℕ) (from_one : 1 ≤ start) (to
         (at dist) layer done d s.2 p s.0
 
     pub breadth_step : (dist' : List ℕ) (found : ℕ) → bit_and layer goal ≡ 0 → Marked dist dist' layer (λ _. d) → found < 2 ^ 64 →
-        ((y : ℕ) → holds found y ≡ arc_from 64 out layer y) →
-        Turn out start set goal before dist' (bit_xor found (bit_and found (bit_or set (bit_or done layer)))) (bit_or done layer) (d + 1)
-    breadth_step dist' found unmet marked h found_is = (
-      xor_lt 64 found (bit_and found known) h (omega (arith, and_le_l found known)),
+        set < 2 ^ 64 → done < 2 ^ 64 → ((y : ℕ) → holds found y ≡ arc_from 64 out layer y) →
+        Turn out start set goal before dist' (bit_and found (18446744073709551615 - bit_or set (bit_or done layer))) (bit_or done layer) (d + 1)
+    breadth_step dist' found unmet marked h set_fits done_fits found_is = (
+      omega (arith, and_le_l found (18446744073709551615 - known), h),
       marked.size,
       rw (add-one d)
           (layers_step 64 round start from_one to_last (distances 64 round start) (distances_are 64 round start from_one to_last) (at before) goal
-          (at dist) layer done d s.2 (at dist') (bit_xor found (bit_and found known)) (bit_or done layer)
+          (at dist) layer done d s.2 (at dist') (bit_and found (18446744073709551615 - known)) (bit_or done layer)
           (λ j l t. not_true_false (holds layer j) (λ u. clash (and_holds layer goal j ∙ and_i (holds layer j) (holds goal j) u t) (ap (λ (w : ℕ). holds w j) unmet ∙ none_holds j)))
           marked.entry (λ j l. or_holds done layer j) (λ j l. layer_is j)),
       λ x y l m t p a.
@@ -104,9 +105,9 @@ module _ (out : ℕ → ℕ) (start set goal : ℕ) (from_one : 1 ≤ start) (to
         known : ℕ
         known = bit_or set (bit_or done layer)
 
-        layer_is : (j : ℕ) → holds (bit_xor found (bit_and found known)) j ≡ (arc_from 64 round layer j && not (holds (bit_or done layer) j))
+        layer_is : (j : ℕ) → holds (bit_and found (18446744073709551615 - known)) j ≡ (arc_from 64 round layer j && not (holds (bit_or done layer) j))
         layer_is j =
-            less_holds found known j
+            without found known h (or_lt 64 set (bit_or done layer) set_fits (or_lt 64 done layer done_fits s.0)) j
             ∙ ap₂ (λ (a b : Bool). a && not b) (found_is j) (or_holds set (bit_or done layer) j)
             ∙ neither (arc_from 64 out layer j) (holds set j) (holds (bit_or done layer) j)
             ∙ ap (λ (a : Bool). a && not (holds (bit_or done layer) j)) (sym (arc_from-avoiding 64 out set layer j))

@@ -5,7 +5,7 @@ use Rattle.junctions.specs.Sets.{holds}
 use Rattle.digraph.specs.Closure.{arc_from}
 use Rattle.digraph.specs.Distances.{distances}
 use Rattle.digraph.specs.Search.{avoiding}
-use Rattle.digraph.specs.Layers.{Layered, Before}
+use Rattle.digraph.specs.Layers.{Layered}
 
 -- what is found, with what arcs from the rest lead to, is what arcs from the whole set lead to
 abbrev pub Spreading : (out : ℕ → ℕ) → (from found rest : ℕ) → Type 0
@@ -21,12 +21,6 @@ abbrev pub Turn : (out : ℕ → ℕ) → (start set goal : ℕ) → (before dis
 Turn out start set goal before dist layer done d =
     (layer < 2 ^ 64) × (length dist ≡ 64) × Layered 64 (distances 64 (avoiding set out) start) (at before) (at dist) goal layer done d
     × ((x y : ℕ) → 1 ≤ x → x ≤ 64 → holds done x ≡ true → 1 ≤ y → holds (out x) y ≡ true → y ≤ 64)
-
--- a junction one arc before y is x or a later one
-pub record BeforeFrom (n : ℕ) (out dist : ℕ → ℕ) (y x : ℕ) : Type 0 where
-  pub at : ℕ
-  pub there : Before n out dist y at
-  pub later : x ≤ at
 
 -- of the arcs from junctions before x each is turned round
 abbrev pub Rounding : (out : ℕ → ℕ) → (back : List ℕ) → (x : ℕ) → Type 0

@@ -1,16 +1,10 @@
 // Sets of junctions and of rows as numbers, junction j and row j at bit j - 1; the unfixed rows, and the rows that enter a set.
-ghost use Rattle.std.specs.Prelude.{◌≤◌, ◌<◌};
+ghost use Rattle.std.specs.Prelude.{◌≤◌, ◌<◌, length};
 
-use smallhalls::Small;
-
-// The rows that enter a set; not directed where a row leaves it.
-#[derive(Clone, Copy)]
-pub struct Cut {
-    pub directed: bool,
-    pub rows: u64,
-}
+use smallhalls::Row;
 
 // Two to the power k: how many sets k things have.
+#[tactic(auto, using(crate::proofs::Powers::sets_of_few))]
 pub fn subsets(k: usize) -> u64
     requires { k ≤ 10 }
     ensures { (1 ≤ result) × (result ≤ 1024) × (k ≤ 6 → result ≤ 64) }
@@ -39,52 +33,40 @@ fn single(j: u8) -> u64 {
     }
 }
 
+// Not `junctions::has`: what judges the library calls nothing of it.
 pub fn has(set: u64, j: u8) -> bool {
     set & single(j) != 0
 }
 
 pub fn enters(set: u64, from: u8, to: u8) -> bool {
-    has(set, to) & !has(set, from)
+    has(set, to) && !has(set, from)
 }
 
 // The rows that may be opened: all but the fixed ones.
-pub fn unfixed(hall: Small) -> u64
-    requires { hall.count ≤ 10 }
+pub fn unfixed(rows: &[Row]) -> u64
+    requires { length rows.now ≤ 64 }
 {
-    let count = hall.count;
-    let mut rows: u64 = 0;
-    let mut i: usize = 0;
-    while i < count {
-        if !hall.fixed[i] {
-            rows = rows | (1 << i);
+    let mut unfixed = 0;
+    for (i, row) in rows.iter().enumerate() {
+        if row.price.is_some() {
+            unfixed |= 1 << i;
         }
-        i += 1;
     }
-    rows
+    unfixed
 }
 
-pub fn cut_of(hall: Small, set: u64) -> Cut
-    requires { hall.count ≤ 10 }
+// The rows that enter a set; none of them where a row leaves it, for then it is no directed cut.
+pub fn cut_of(rows: &[Row], set: u64) -> Option<u64>
+    requires { length rows.now ≤ 64 }
 {
-    let count = hall.count;
-    let mut rows: u64 = 0;
-    let mut i: usize = 0;
-    while i < count {
-        let from = hall.from[i];
-        let to = hall.to[i];
-        if enters(set, to, from) {
-            return Cut {
-                directed: false,
-                rows: 0,
-            };
+    let mut entering = 0;
+    for (i, row) in rows.iter().enumerate() {
+        if enters(set, row.to, row.from) {
+            return None;
         }
-        if enters(set, from, to) {
-            rows = rows | (1 << i);
+        if enters(set, row.from, row.to) {
+            entering |= 1 << i;
         }
-        i += 1;
     }
-    Cut {
-        directed: true,
-        rows,
-    }
+    Some(entering)
 }

@@ -1,2 +1,2 @@
+pub mod Lanes
 pub mod Places
-pub mod Steps

@@ -2,22 +2,14 @@
 ghost use Rattle.std.specs.Prelude.{◌≡◌, ◌+◌, ◌*◌, ◌^◌, ◌≤◌, ◌<◌, length};
 ghost use Rattle.hall.specs.File.{field};
 
-fn wide(byte: u8) -> u64
-    ensures { (result ≡ byte) × (result < 256) }
-{
-    byte as u64
-}
-
-// The number in the `width` bytes from place `at` on, least byte first.
+// The number in the `width` bytes from place `at` on, least byte first: one reader for each width, by the definition `field`, where `from_le_bytes` would need one for each.
 pub fn number(bytes: &[u8], at: usize, width: usize) -> u64
     requires { (width ≤ 8) × (at + width ≤ length bytes.now) }
     ensures { (result ≡ field at width bytes.now) × (result < 2 ^ (8 * width)) }
 {
-    let mut value: u64 = 0;
-    let mut i = width;
-    while 0 < i {
-        i -= 1;
-        value = wide(bytes[at + i]) + 256 * value;
+    let mut value = 0;
+    for i in (at..at + width).rev() {
+        value = u64::from(bytes[i]) + 256 * value;
     }
     value
 }

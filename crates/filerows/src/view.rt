@@ -1,27 +1,70 @@
-// A view of the rows of a lent file from a place on. It holds the file and the place, and is thin: it is taken apart, and the work is `places::step_from`.
-ghost use Rattle.filerows.specs.Steps.{RowAhead, NextRow};
+// A view of the rows of a lent file, row by row. It holds the file and the place of the next row, and is thin: a row is read at its place.
+ghost use Rattle.std.specs.Prelude.{◌≡◌, [], MatchOption};
+ghost use Rattle.std.specs.Iterator.{YieldsFirstBy, item_count};
+ghost use Rattle.hall.specs.File.{all_rows};
+ghost use Rattle.filerows.specs.Places.{Table, Stands, Ahead, rest_at};
+ghost use Rattle.filerows.specs.Lanes.{lane_row};
 
 use crate::places;
-use crate::places::{Place, Step};
+use crate::places::{Lane, Place};
 
+// The rows that are left of a file with so many blocks.
 #[derive(Clone, Copy)]
 pub struct Rows<'a> {
     pub file: &'a [u8],
+    pub block_count: usize,
     pub place: Place,
+    pub ghost table: { Table file.now block_count },
+    pub ghost stands: { Stands file.now block_count place },
 }
 
-// The row in front of the view, and the place after it.
-pub fn next<'a>(rows: Rows<'a>) -> Step
-    requires { RowAhead rows.file.now rows.place }
-    ensures { NextRow rows.entry.file.now rows.entry.place result }
-{
-    places::step_from(rows.file, rows.place)
+impl<'a> Rows<'a> {
+    // All rows of the file.
+    #[tactic(auto, unfolding(crate::specs::Places::rest_at, hall::specs::File::rows_at))]
+    pub fn of(file: &'a [u8], blocks: usize) -> Rows<'a>
+        requires { Table file.now blocks }
+        ensures { (result.file ≡ file.entry) × (result.block_count ≡ blocks) × (rest_at result.file.now result.block_count result.place ≡ all_rows blocks 0 file.entry.now) }
+    {
+        Rows {
+            file,
+            block_count: blocks,
+            place: Place {
+                at: 0,
+                left: 0,
+                block: 0,
+            },
+        }
+    }
+
+    // The place of the next row: where a block is used up, the next block's first.
+    fn ahead(&self) -> Option<Place>
+        ensures { MatchOption result (rest_at self.now.file.now self.now.block_count self.now.place ≡ []) (Ahead self.now.file.now self.now.block_count self.now.place) }
+    {
+        if 0 < self.place.left {
+            return Some(self.place);
+        }
+        if self.place.block == self.block_count {
+            return None;
+        }
+        Some(places::first_of(self.file, self.place.block))
+    }
 }
 
-// The same, for whoever has a file and a place.
-pub fn next_row(file: &[u8], place: Place) -> Step
-    requires { RowAhead file.now place }
-    ensures { NextRow file.now place result }
-{
-    next(Rows { file, place })
+impl<'a> Iterator for Rows<'a> {
+    type Item = Lane;
+
+    ghost next_gives = { YieldsFirstBy lane_row (λ s. rest_at s.file.now s.block_count s.place) };
+
+    ghost remaining = { item_count (λ s. rest_at s.file.now s.block_count s.place) };
+
+    fn next(&mut self) -> Option<Lane> {
+        let here = self.ahead()?;
+        let lane = places::lane_at(self.file, here.at);
+        self.place = Place {
+            at: here.at + 8,
+            left: here.left - 1,
+            block: here.block,
+        };
+        Some(lane)
+    }
 }

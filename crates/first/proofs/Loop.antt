@@ -20,7 +20,8 @@ use Rattle.order.specs.Ranked.{ranked, Plannable}
 use Rattle.deciding.specs.Decided.{rows_after}
 use Rattle.deciding.specs.Deciding.{Deciding}
 use Rattle.deciding.proofs.Deciding.{not_after, deciding_start, deciding_same, deciding_end}
-use Rattle.columns.specs.Columns.{Columns}
+use Rattle.columns.specs.Lanes.{LanesOf}
+use Rattle.columns.specs.declared.Lanes.{Lanes}
 use Rattle.first.specs.Standing.{Movable}
 
 -- rows other than the next one move after k + 1 rows as after k
@@ -50,17 +51,17 @@ movable_next k flags fits later i l u =
     let there : i - 1 ≡ k → ⊥ = λ q. eqb-false i (suc k) e (omega arith) in
     get_or-set_other flags k (i - 1) false false there ∙ later i l u ∙ past_next k i (eqb-false i (suc k) e)))
 
-module _ (h : Hall) (rg : Ranged h) (n m : ℕ) (ts hs : List ℕ) (cols : Columns h n m ts hs) (costs : List ℕ)
-    (is : (i : ℕ) → 1 ≤ i → i ≤ m → at costs i ≡ ranked h i) where
+module _ (h : Hall) (rg : Ranged h) (ln : Lanes) (lanes : LanesOf h ln) (costs : List ℕ)
+    (is : (i : ℕ) → 1 ≤ i → i ≤ ln.count → at costs i ≡ ranked h i) where
   costs_ranked : (i : ℕ) → 1 ≤ i → i ≤ count h → at costs i ≡ ranked h i
-  costs_ranked i l u = is i l (omega (arith, cols.rows))
+  costs_ranked i l u = is i l (omega (arith, lanes.rows))
 
   pub first_start : (p : ℕ → ℕ) (F : ℕ → Bool) → Repaired h (ranked h) p F → Deciding h (at costs) 0 p F
   first_start p F done =
       deciding_same h rg (ranked h) (at costs) (λ i l u. sym (costs_ranked i l u)) p p (λ j l u. refl) F F (λ i l u. refl) 0 (omega arith)
       (deciding_start h rg (ranked h) p F done)
 
-  pub first_end : Plannable h → (p : ℕ → ℕ) (F : ℕ → Bool) → Deciding h (at costs) m p F → First h (listed h F)
+  pub first_end : Plannable h → (p : ℕ → ℕ) (F : ℕ → Bool) → Deciding h (at costs) ln.count p F → First h (listed h F)
   first_end able p F done =
       deciding_end h rg able p F
-      (deciding_same h rg (at costs) (ranked h) costs_ranked p p (λ j l u. refl) F F (λ i l u. refl) (count h) (omega arith) (rw (sym cols.rows) at done))
+      (deciding_same h rg (at costs) (ranked h) costs_ranked p p (λ j l u. refl) F F (λ i l u. refl) (count h) (omega arith) (rw (sym lanes.rows) at done))

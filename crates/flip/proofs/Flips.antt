@@ -2,25 +2,42 @@
 use mathlib.Core.Path.{◌≡◌, refl, sym, ap, ◌∙◌}
 use mathlib.Core.Bool.{Bool, true, false, cond}
 use mathlib.Core.List.{List, [], ◌∷◌}
-use Prim.Native.Nat.{ℕ, zero, suc, ◌-◌, ◌≤◌, ◌<◌}
+use Rattle.std.specs.Prelude.{Option, None, Some, MatchOption}
+use Prim.Native.Nat.{ℕ, suc, ◌-◌, ◌≤◌, ◌<◌}
 use native.Mathlib.Omega.{arith}
 use lib.Dec.{eqb, leb}
 use lib.ListN.{length, set}
 use lib.Seq.{get_or-set_same, get_or-set_other}
 use borrow.Author.Tests.{eqb-true, eqb-false, leb-true, leb-false}
 use Rattle.laws.specs.Lists.{at}
-use Rattle.laws.specs.First.{first_below}
 use Rattle.laws.proofs.Booleans.{by_bool, clash}
-use Rattle.laws.proofs.First.{first_passes, first_least}
+use Rattle.laws.proofs.First.{first_passes, first_least, first_more, first_none}
 use Rattle.junctions.specs.Sets.{holds}
 use Rattle.junctions.proofs.Sets.{none_holds}
 use Rattle.hall.specs.Hall.{Hall, count}
 use Rattle.columns.specs.Columns.{flagged}
-use Rattle.potentials.specs.ZeroGraph.{Opens, Closes, opens, closes, zero_arcs}
+use Rattle.potentials.specs.ZeroGraph.{opens, closes, zero_arcs}
 use Rattle.potentials.specs.Flip.{Leg, by_open, by_close, by_swap, end_of, Takes, Route, put, after, flipped}
 use Rattle.potentials.proofs.Arcs.{opens_true, true_opens, closes_true, true_closes, arc_cases}
-use Rattle.flip.specs.Flips.{SameRows, Made, Walked}
+use Rattle.flip.specs.Flips.{FirstPlace, SameRows, Made, Walked}
 use Rattle.zerograph.specs.Zero.{ZeroGraph}
+
+-- what a search of the places below m finds is the first that passes
+module _ (m : ℕ) (test : ℕ → Bool) where
+  pub first_place :
+      (r : Option ℕ) → MatchOption r ((k : ℕ) → 0 ≤ k → k < m → test k ≡ false) (λ i. (0 ≤ i) × (i < m) × (test i ≡ true) × ((k : ℕ) → 0 ≤ k → k < i → test k ≡ false)) →
+      FirstPlace m test r
+  unfolding FirstPlace
+  first_place None none = first_none m test (λ i l. none i (omega arith) l)
+  first_place (Some k) found = (sym (first_more m test k found.1 (λ i l. found.3 i (omega arith) l) found.2), found.1)
+
+  found_passes : (k : ℕ) → FirstPlace m test (Some k) → (k < m) × (test k ≡ true)
+  unfolding FirstPlace
+  found_passes k found = (found.1, ap test found.0 ∙ first_passes m test (omega (arith, found.0, found.1)))
+
+  none_passes : FirstPlace m test None → (k : ℕ) → k < m → test k ≡ true → ⊥
+  unfolding FirstPlace
+  none_passes none k less passes = clash passes (first_least m test k (omega (arith, none)))
 
 -- a flag set is a row put in or taken out
 pub set_puts : (flags : List Bool) (r : ℕ) (b : Bool) → r < length flags → SameRows (flagged (set flags r b)) (put (suc r) b (flagged flags))
@@ -35,42 +52,33 @@ set_puts flags r b less k l =
     rw e (get_or-set_other flags r (k - 1) b false other))
 
 module _ (h : Hall) (m : ℕ → Bool) (c p : ℕ → ℕ) (F : ℕ → Bool) (x y count_rows : ℕ) (rows : count h ≡ count_rows) (flags : List Bool) where
-  pub made_open :
-      (r : ℕ) → r ≡ first_below count_rows (λ k. opens h m c p x y (suc k)) → r < count_rows → r < length flags →
-      Made h m c p F x y (flagged flags) (flagged (set flags r true))
-  unfolding end_of Takes after
-  made_open r is less fits ly hy arc =
-      let e : opens h m c p x y (suc r) ≡ true =
-      ap (λ (k : ℕ). opens h m c p x y (suc k)) is ∙ first_passes count_rows (λ k. opens h m c p x y (suc k)) (omega (arith, is)) in
-      (by_open (suc r) y, refl, opens_true h m c p F x y (suc r) (omega arith) (omega (arith, rows)) e, set_puts flags r true fits)
+  abbrev pub opening_row : ℕ → Bool
+  opening_row k = opens h m c p x y (suc k)
 
-  pub made_close :
-      (r : ℕ) → r ≡ first_below count_rows (λ k. closes h m F x y (suc k)) → r < count_rows → r < length flags →
-      Made h m c p F x y (flagged flags) (flagged (set flags r false))
-  unfolding end_of Takes after
-  made_close r is less fits ly hy arc =
-      let e : closes h m F x y (suc r) ≡ true =
-      ap (λ (k : ℕ). closes h m F x y (suc k)) is ∙ first_passes count_rows (λ k. closes h m F x y (suc k)) (omega (arith, is)) in
-      (by_close (suc r) y, refl, closes_true h m c p F x y (suc r) (omega arith) (omega (arith, rows)) e, set_puts flags r false fits)
+  abbrev pub closing_row : ℕ → Bool
+  closing_row k = closes h m F x y (suc k)
 
-  pub made_swap :
-      (r s : ℕ) → r ≡ first_below count_rows (λ k. opens h m c p x y (suc k)) → count_rows ≤ r → s ≡ first_below count_rows (λ k. closes h m F x y (suc k)) →
-      count_rows ≤ s → Made h m c p F x y (flagged flags) (flagged flags)
+  pub made_open : (r : ℕ) → FirstPlace count_rows opening_row (Some r) → r < length flags → Made h m c p F x y (flagged flags) (flagged (set flags r true))
   unfolding end_of Takes after
-  made_swap r s open_is no_open close_is no_close ly hy arc =
-      arc_cases h m c p F x y ly hy arc (λ i o. absurd (none_opens i o)) (λ i o. absurd (none_closes i o)) (λ o. (by_swap y, refl, o, λ k l. refl))
-    where
-      none_opens : (i : ℕ) → Opens h m c p x y i → ⊥
-      none_opens zero o = absurd (omega (arith, o.low))
-      none_opens (suc i) o =
-          clash (true_opens h m c p F x y (suc i) o)
-          (first_least count_rows (λ k. opens h m c p x y (suc k)) i (omega (arith, o.high, rows, open_is)))
+  made_open r first fits ly hy arc =
+      let found = found_passes count_rows opening_row r first in
+      (by_open (suc r) y, refl, opens_true h m c p F x y (suc r) (omega arith) (omega (arith, rows, found.0)) found.1, set_puts flags r true fits)
 
-      none_closes : (i : ℕ) → Closes h m F x y i → ⊥
-      none_closes zero o = absurd (omega (arith, o.low))
-      none_closes (suc i) o =
-          clash (true_closes h m c p F x y (suc i) o)
-          (first_least count_rows (λ k. closes h m F x y (suc k)) i (omega (arith, o.high, rows, close_is)))
+  pub made_close : (r : ℕ) → FirstPlace count_rows closing_row (Some r) → r < length flags → Made h m c p F x y (flagged flags) (flagged (set flags r false))
+  unfolding end_of Takes after
+  made_close r first fits ly hy arc =
+      let found = found_passes count_rows closing_row r first in
+      (by_close (suc r) y, refl, closes_true h m c p F x y (suc r) (omega arith) (omega (arith, rows, found.0)) found.1, set_puts flags r false fits)
+
+  pub made_swap : FirstPlace count_rows opening_row None → FirstPlace count_rows closing_row None → Made h m c p F x y (flagged flags) (flagged flags)
+  unfolding end_of Takes after
+  made_swap no_open no_close ly hy arc =
+      arc_cases h m c p F x y ly hy arc
+      (λ i o. let same : suc (i - 1) ≡ i = omega (arith, o.low) in
+      absurd (none_passes count_rows opening_row no_open (i - 1) (omega (arith, o.low, o.high, rows)) (rw same (true_opens h m c p F x y i o))))
+      (λ i o. let same : suc (i - 1) ≡ i = omega (arith, o.low) in
+      absurd (none_passes count_rows closing_row no_close (i - 1) (omega (arith, o.low, o.high, rows)) (rw same (true_closes h m c p F x y i o))))
+      (λ o. (by_swap y, refl, o, λ k l. refl))
 
 -- the same rows stay the same after a row is put in or taken out, and after a leg
 pub puts_same : (i : ℕ) (b : Bool) (F G : ℕ → Bool) → SameRows F G → SameRows (put i b F) (put i b G)

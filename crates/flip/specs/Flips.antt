@@ -1,9 +1,15 @@
 -- The flags of rows as arcs of the zero graph are made. Assumes nothing: these are definitions.
-use Rattle.std.specs.Prelude.{◌≡◌, Bool, true, false, List, ℕ, ◌≤◌}
+use Rattle.std.specs.Prelude.{◌≡◌, Bool, true, false, List, ℕ, ◌≤◌, ◌<◌, Option, None, Some}
+use Rattle.laws.specs.First.{first_below}
 use Rattle.junctions.specs.Sets.{holds}
 use Rattle.hall.specs.Hall.{Hall}
 use Rattle.potentials.specs.ZeroGraph.{zero_arcs}
 use Rattle.potentials.specs.Flip.{Leg, by_open, by_close, end_of, Takes, Route, put, after, flipped}
+
+-- the place of the first of m rows that passes the test, or nothing where none does
+unfoldable pub FirstPlace : (m : ℕ) → (test : ℕ → Bool) → Option ℕ → Type 0
+FirstPlace m test None = first_below m test ≡ m
+FirstPlace m test (Some k) = (k ≡ first_below m test) × (k < m)
 
 -- the rows are the same
 abbrev pub SameRows : (F G : ℕ → Bool) → Type 0

@@ -1,23 +1,28 @@
--- Solid-arcs arcs, second arcs and known sets lead to robust junctions, and a set that grows by these stays right. Assumes nothing.
+-- Solid arcs, second arcs and known sets lead to robust junctions, and a set that grows by these stays right. Assumes nothing.
 use mathlib.Core.Path.{◌≡◌, refl, sym, ap, ap₂, ◌∙◌}
 use mathlib.Core.Bool.{Bool, true, false, ◌&&◌, ◌||◌, not}
+use mathlib.Core.List.{List}
 use mathlib.Core.Logic.{◌⊎◌, inl, inr, ⊎_elim}
-use Prim.Native.Nat.{ℕ, ◌+◌, ◌-◌, ◌^◌, ◌≤◌, ◌<◌}
+use Prim.Native.Nat.{ℕ, suc, ◌-◌, ◌^◌, ◌≤◌, ◌<◌}
 use native.Mathlib.Omega.{arith}
 use lib.Bits.{bit_and, bit_or, or_lt, and_le_l}
-use lib.Count.{count_trailing_zeros}
 use lib.Dec.{eqb}
+use lib.ListN.{get_or}
 use borrow.Author.Tests.{eq-eqb, eqb-true, not-true}
+use Rattle.laws.specs.Lists.{at}
+use Rattle.laws.proofs.Lists.{at-suc}
 use Rattle.laws.proofs.Booleans.{by_bool, clash, and_l, and_r, and_i, or_cases, or_l, or_r, or_false_l, or_false_r, not_true_false, not_false_true}
 use Rattle.junctions.specs.Sets.{holds, Within}
-use Rattle.junctions.proofs.Sets.{and_holds, or_holds, lowest_is}
+use Rattle.junctions.specs.Taking.{Taken}
+use Rattle.junctions.proofs.Sets.{and_holds, or_holds}
+use Rattle.junctions.proofs.Taking.{taken_in}
 use Rattle.junctions.proofs.Single.{one_lt, one_within}
 use Rattle.digraph.specs.Reach.{Closed, Reach}
 use Rattle.growth.specs.Robust.{arcs_without, Robust}
-use Rattle.growth.specs.Growth.{AllRobust, done, Growing}
+use Rattle.growth.specs.Growth.{AllRobust, done, Known, Growing}
 use Rattle.growth.proofs.Cut.{cut_stays}
 use Rattle.growth.proofs.Reached.{reach_some}
-use Rattle.growth.proofs.Expanding.{left_after, left_holds, expand_fits}
+use Rattle.growth.proofs.Expanding.{left_after, left_holds}
 
 -- u is in all that v reaches
 abbrev Led : (out : ℕ → ℕ) → (v u : ℕ) → Type 0
@@ -219,34 +224,35 @@ module _ (out solids : ℕ → ℕ) (v set todo once x sure near set' todo' once
 abbrev pub sure_of : (next solids once near : ℕ) → ℕ
 sure_of next solids once near = bit_or (bit_and next (bit_or solids once)) near
 
--- the machine's step: the lowest junction to do is expanded
+pub sure_fits : (next solids once near : ℕ) → next < 2 ^ 64 → near < 2 ^ 64 → sure_of next solids once near < 2 ^ 64
+sure_fits next solids once near next_fits near_fits =
+    or_lt 64 (bit_and next (bit_or solids once)) near (omega (arith, and_le_l next (bit_or solids once), next_fits)) near_fits
+
+-- the machine's step: the junction at a place taken is expanded
 pub growing_step :
-    (out solids : ℕ → ℕ) (v set todo once next strong near : ℕ) → 0 < todo → todo < 2 ^ 64 →
-    next ≡ out (count_trailing_zeros 64 todo + 1) → strong ≡ solids (count_trailing_zeros 64 todo + 1) →
-    AllRobust out solids (count_trailing_zeros 64 todo + 1) near → Growing out solids v set todo once →
-    Growing out solids v (bit_or set (sure_of next strong once near)) (left_after set todo (sure_of next strong once near)) (bit_or once next)
-growing_step out solids v set todo once next strong near some fits next_is strong_is near_robust g =
-    let x = count_trailing_zeros 64 todo + 1 in
-    let low = lowest_is todo some fits in
+    (arcs solid known : List ℕ) (v set todo once place left : ℕ) →
+    let sure = sure_of (get_or arcs place 0) (get_or solid place 0) once (get_or known place 0) in
+    set < 2 ^ 64 → sure < 2 ^ 64 → Taken todo place left → Known (at arcs) (at solid) (at known) → Growing (at arcs) (at solid) v set todo once →
+    Growing (at arcs) (at solid) v (bit_or set sure) (left_after set left sure) (bit_or once (get_or arcs place 0))
+growing_step arcs solid known v set todo once place left small fits taken known_robust g =
+    let x : ℕ = suc place in
+    let next = get_or arcs place 0 in
+    let strong = get_or solid place 0 in
+    let near = get_or known place 0 in
     let sure = sure_of next strong once near in
-    growing_on out solids v set todo once x sure near (bit_or set sure) (left_after set todo sure) (bit_or once next) low.from_one low.to_last
-    low.in_it
+    let high : x ≤ 64 = omega (arith, taken.in_range) in
+    growing_on (at arcs) (at solid) v set todo once x sure near (bit_or set sure) (left_after set left sure) (bit_or once next) (omega arith) high
+    (taken_in taken)
     (λ i.
     or_holds (bit_and next (bit_or strong once)) near i
     ∙ ap (λ (b : Bool). b || holds near i)
     (and_holds next (bit_or strong once) i
-    ∙ ap₂ ◌&&◌ (ap (λ (s : ℕ). holds s i) next_is)
-    (or_holds strong once i ∙ ap (λ (s : ℕ). holds s i || holds once i) strong_is)))
+    ∙ ap₂ ◌&&◌ (ap (λ (s : ℕ). holds s i) (sym (at-suc arcs place)))
+    (or_holds strong once i ∙ ap (λ (s : ℕ). holds s i || holds once i) (sym (at-suc solid place)))))
     (or_holds set sure)
-    (left_holds set todo sure some fits)
-    (λ i. or_holds once next i ∙ ap (λ (s : ℕ). holds once i || holds s i) next_is) near_robust g
-
-pub growing_fits :
-    (set todo once next strong near : ℕ) → todo < 2 ^ 64 → next < 2 ^ 64 → near < 2 ^ 64 →
-    left_after set todo (sure_of next strong once near) < 2 ^ 64
-growing_fits set todo once next strong near fits next_fits Near_fits =
-    expand_fits set todo (sure_of next strong once near) fits
-    (or_lt 64 (bit_and next (bit_or strong once)) near (omega (arith, and_le_l next (bit_or strong once))) Near_fits)
+    (left_holds set todo sure place left small fits taken)
+    (λ i. or_holds once next i ∙ ap (λ (s : ℕ). holds once i || holds s i) (sym (at-suc arcs place)))
+    (rw (at-suc known place) at (known_robust x (omega arith) high)) g
 
 -- what is in a set is in it with more, and so is the more
 pub within_more : (a b c : ℕ) → Within a b → Within a (bit_or b c)

@@ -9,6 +9,8 @@ ghost use Rattle.junctions.specs.Sets.{holds, Within};
 ghost use Rattle.growth.specs.Robust.{RobustSet};
 ghost use Rattle.growth.specs.Growth.{Known, Growing, Meeting};
 
+use junctions::Places;
+
 // A set, and the junctions that arcs from it lead to.
 #[derive(Clone, Copy)]
 struct Grown {
@@ -16,79 +18,56 @@ struct Grown {
     once: u64,
 }
 
-// The set with more junctions, and with all that solid arcs, second arcs and known sets then add.
-fn grow<'a>(
-    arcs: &'a [u64; 64],
-    solid: &'a [u64; 64],
-    known: &'a [u64; 64],
-    set: u64,
-    once: u64,
-    more: u64,
-) -> Grown
-    ensures { Within (bit_or set more) result.set × ((v : ℕ) → Known (at arcs.now) (at solid.now) (at known.now) →
-        Growing (at arcs.now) (at solid.now) v (bit_or set more) more once →
-        Growing (at arcs.now) (at solid.now) v result.set 0 result.once) }
-{
-    let mut grown = set | more;
-    let mut todo = more;
-    let mut found = once;
-    while todo != 0 {
-        let x = (u64::trailing_zeros(todo) as usize) + 1;
-        let next = digraph::arcs(arcs, x);
-        let lasting = digraph::arcs(solid, x);
-        let near = digraph::arcs(known, x);
-        let sure = (next & (lasting | found)) | near;
-        let fresh = sure ^ (sure & grown);
-        todo = (todo & (todo - 1)) | fresh;
-        grown = grown | sure;
-        found = found | next;
-    }
-    Grown {
-        set: grown,
-        once: found,
+impl Grown {
+    // The set with more junctions, and with all that solid arcs, second arcs and known sets then add.
+    // The three arrays are no struct: only `neighbourhood` hands them on, and its callers have them one by one.
+    fn grow(self, arcs: &[u64; 64], solid: &[u64; 64], known: &[u64; 64], more: u64) -> Grown
+        ensures { Within (bit_or self.set more) result.set × ((v : ℕ) → Known (at arcs.now) (at solid.now) (at known.now) →
+            Growing (at arcs.now) (at solid.now) v (bit_or self.set more) more self.once →
+            Growing (at arcs.now) (at solid.now) v result.set 0 result.once) }
+    {
+        let mut set = self.set | more;
+        let mut once = self.once;
+        let mut todo = Places::of(more);
+        while let Some(x) = todo.next() {
+            let sure = (arcs[x] & (solid[x] | once)) | known[x];
+            todo.add(sure & !set);
+            set |= sure;
+            once |= arcs[x];
+        }
+        Grown { set, once }
     }
 }
 
 // Junctions in which the searches from two heads meet; none where these searches keep apart.
+// A set, not an option: 0 is the empty set.
 fn meeting(arcs: &[u64; 64], set: u64, heads: u64) -> u64
     requires { (y : ℕ) → 1 ≤ y → holds heads y ≡ true → holds set y ≡ false }
     ensures { Meeting (at arcs.now) set heads result }
 {
     let mut other: u64 = 0;
-    let mut distances = [0u8; 64];
-    let mut rest = heads;
-    while rest != 0 {
-        let place = u64::trailing_zeros(rest) as usize;
-        let held = digraph::reach_until(arcs, place + 1, set, other, &mut distances);
+    for place in Places::of(heads) {
+        let held = digraph::reach_until(arcs, place + 1, set, other).set;
         let met = held & other;
         if met != 0 {
             return met;
         }
-        other = other | held;
-        rest = rest & (rest - 1);
+        other |= held;
     }
     0
 }
 
 // The junctions that v reaches even without any one arc that is not solid, where the known sets hold such junctions only.
-pub fn neighbourhood<'a>(
-    arcs: &'a [u64; 64],
-    solid: &'a [u64; 64],
-    known: &'a [u64; 64],
-    v: usize,
-) -> u64
+pub fn neighbourhood(arcs: &[u64; 64], solid: &[u64; 64], known: &[u64; 64], v: usize) -> u64
     requires { (1 ≤ v) × (v ≤ 64) }
     ensures { Known (at arcs.now) (at solid.now) (at known.now) →
         RobustSet (at arcs.now) (at solid.now) v result }
 {
-    let mut set: u64 = 0;
-    let mut once: u64 = 0;
+    let mut grown = Grown { set: 0, once: 0 };
     let mut met: u64 = 1 << (v - 1);
     while met != 0 {
-        let grown = grow(arcs, solid, known, set, once, met);
-        set = grown.set;
-        once = grown.once;
-        met = meeting(arcs, set, once ^ (once & set));
+        grown = grown.grow(arcs, solid, known, met);
+        met = meeting(arcs, grown.set, grown.once & !grown.set);
     }
-    set
+    grown.set
 }

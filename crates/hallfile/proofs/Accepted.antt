@@ -1,4 +1,4 @@
--- What a file that is not refused gives: a sound, ranged and linked hall whose unfixed rows join, and its record in columns. Assumes nothing.
+-- What a file that is not refused gives: a sound, ranged and linked hall whose unfixed rows join. Assumes nothing.
 use mathlib.Core.Path.{◌≡◌}
 use mathlib.Core.Bool.{true}
 use mathlib.Core.List.{List}
@@ -13,10 +13,6 @@ use Rattle.joining.proofs.Sound.{other_sound, sound_ranged}
 use Rattle.joining.proofs.Accepted.{unrefused_walked}
 use Rattle.joining.proofs.Connected.{connected_linked}
 use Rattle.joining.proofs.Openable.{openable_joining}
-use Rattle.columns.specs.Columns.{Ends, Columns, Marks}
-use Rattle.hallfile.specs.declared.HallRecord.{HallRecord}
-use Rattle.hallfile.specs.Record.{record_of}
-use Rattle.hallfile.proofs.Records.{record_columns, record_marks, record_ends}
 
 module _ (bs : List ℕ) (fine : eqb (hall_refusal bs).number 0 ≡ true) where
   pub sound : Sound bs
@@ -33,13 +29,3 @@ module _ (bs : List ℕ) (fine : eqb (hall_refusal bs).number 0 ≡ true) where
 
   pub unfixed_joining : Joining (hall_in bs) (once (unfixed_row (hall_in bs)))
   unfixed_joining = openable_joining (hall_in bs) walked.1
-
-  module _ (x : HallRecord) (is_record : x ≡ record_of (hall_in bs)) where
-    pub columns : Columns (hall_in bs) x.n x.count x.tails x.heads
-    columns = record_columns (hall_in bs) sound.rows_few x is_record
-
-    pub marks : Marks (hall_in bs) x.fixed
-    marks = record_marks (hall_in bs) sound.rows_few x is_record
-
-    pub ends : Ends x.n x.count x.tails x.heads
-    ends = record_ends (hall_in bs) sound.rows_few x is_record ranged sound.junctions_few

@@ -1,6 +1,6 @@
 -- The fixed order of the refusals, test by test. Assumes nothing.
 use mathlib.Core.Path.{◌≡◌, refl, sym, ap, ◌∙◌}
-use mathlib.Core.Bool.{Bool, true, false, ◌&&◌, cond}
+use mathlib.Core.Bool.{cond, Bool, true, false, ◌&&◌}
 use mathlib.Core.List.{List}
 use Prim.Native.Nat.{ℕ, ◌+◌, ◌*◌, ◌<◌, ◌≤◌}
 use native.Mathlib.Omega.{arith}
@@ -25,9 +25,6 @@ junctions_good n = leb 1 n && leb n 64
 
 abbrev pub table_good : (blocks : ℕ) → List ℕ → Bool
 table_good b bs = leb b 16 && (leb (4 + 8 * b) (length bs) && pairs_good b 0 (4 + 8 * b) bs)
-
-pub length_low : (bs : List ℕ) → length_good bs ≡ true → 4 ≤ length bs
-length_low bs t = leb-true 4 (length bs) (and_l (leb 4 (length bs)) (leb (length bs) 65536) t)
 
 pub junctions_high : (n : ℕ) → junctions_good n ≡ true → n ≤ 64
 junctions_high n t = leb-true n 64 (and_r (leb 1 n) (leb n 64) t)

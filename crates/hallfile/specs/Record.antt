@@ -1,10 +1,10 @@
 -- A hall as columns of 256 places. Assumes nothing: these are definitions.
-use Rattle.std.specs.Prelude.{◌≡◌, false, cond, List, [], ◌∷◌, map, ℕ, zero, suc, eqb}
-use Rattle.hall.specs.Hall.{Row, Hall, hall, count}
+use Rattle.std.specs.Prelude.{◌≡◌, false, List, [], ◌∷◌, map, ℕ, zero, suc, Result, IfOk}
+use Rattle.hall.specs.Hall.{Row, Hall, count}
 use Rattle.hall.specs.File.{Refusal}
-use Rattle.hallfile.specs.declared.HallRecord.{HallRecord}
-use Rattle.hallfile.specs.declared.Reading.{Reading}
-use Rattle.refusals.specs.Kinds.{refusal_of}
+use Rattle.hallfile.specs.declared.record.HallRecord.{HallRecord}
+use Rattle.refusals.specs.declared.Kind.{Kind}
+use Rattle.refusals.specs.Kinds.{answered}
 
 -- the values, cut or filled up to `size` places
 unfoldable pub padded : {A : Type 0} → (filler : A) → (size : ℕ) → List A → List A
@@ -17,22 +17,15 @@ unfoldable pub column : {A : Type 0} → (filler : A) → (Row → A) → List R
 column d f rs = padded d 256 (map f rs)
 
 -- THE RECORD OF A HALL: every place of it
-unfoldable pub record_of : Hall → HallRecord
-record_of h =
-    record {
-      n = h.n;
-      count = count h;
-      tails = column 0 (λ r. r.from) h.rows;
-      heads = column 0 (λ r. r.to) h.rows;
-      prices = column 0 (λ r. r.price) h.rows;
-      fixed = column false (λ r. r.fixed) h.rows;
-    }
+pub record RecordOf (h : Hall) (r : HallRecord) : Type 0 where
+  pub junctions : r.lanes.n ≡ h.n
+  pub rows : r.lanes.count ≡ count h
+  pub tails : r.lanes.tails ≡ column 0 (λ x. x.from) h.rows
+  pub heads : r.lanes.heads ≡ column 0 (λ x. x.to) h.rows
+  pub prices : r.prices ≡ column 0 (λ x. x.price) h.rows
+  pub marks : r.fixed ≡ column false (λ x. x.fixed) h.rows
 
--- the record of no hall
-unfoldable pub empty_record : HallRecord
-empty_record = record_of (hall 0 [])
-
--- A READER'S REPLY: the refusal, and the hall's record where there is none, the empty record where there is one
-pub record Replies (why : Refusal) (h : Hall) (r : Reading) : Type 0 where
-  pub refusal : refusal_of r.refusal ≡ why
-  pub hall : r.hall ≡ cond (eqb why.number 0) (record_of h) empty_record
+-- A READER'S REPLY: the refusal, or the hall's record where there is none
+pub record Replies (why : Refusal) (h : Hall) (r : Result HallRecord Kind) : Type 0 where
+  pub refusal : answered r ≡ why
+  pub hall : IfOk r (λ x. RecordOf h x)

@@ -2,18 +2,16 @@
 ghost use Rattle.std.specs.Prelude.{◌≡◌, ◌≤◌};
 ghost use Rattle.hall.specs.Hall.{Hall};
 ghost use Rattle.hall.specs.File.{connected};
-ghost use Rattle.columns.specs.Columns.{Ends, Columns};
+ghost use Rattle.columns.specs.Lanes.{LanesOf};
 
-use crate::HallRecord;
+use columns::Lanes;
 use junctions::Junctions;
 
-pub fn is_connected(hall: HallRecord) -> bool
-    requires { (1 ≤ hall.n) × Ends hall.n hall.count hall.tails hall.heads }
-    ensures { (h : Hall) → Columns h hall.n hall.count hall.tails hall.heads → result ≡ connected h }
+pub fn is_connected(lanes: &Lanes) -> bool
+    requires { 1 ≤ lanes.now.n }
+    ensures { (h : Hall) → LanesOf h lanes.now → result ≡ connected h }
 {
-    let every = [true; 256];
-    let sets = adjacency::of_rows(hall.n, hall.count, &hall.tails, &hall.heads, &every);
-    let mut distances = [0u8; 64];
-    let reached = digraph::reach(&sets, 1, &mut distances);
-    reached == Junctions::full(hall.n).0
+    let sets = adjacency::of_rows(lanes, &[true; 256]);
+    let search = digraph::reach(&sets, 1);
+    search.set == Junctions::full(lanes.n).0
 }

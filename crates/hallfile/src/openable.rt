@@ -3,19 +3,18 @@ ghost use Rattle.std.specs.Prelude.{◌≡◌};
 ghost use Rattle.hall.specs.Hall.{Hall};
 ghost use Rattle.hall.specs.File.{openable};
 ghost use Rattle.dicuts.specs.Shores.{Ranged, Linked};
-ghost use Rattle.columns.specs.Columns.{Ends, Columns, Marks};
+ghost use Rattle.columns.specs.Columns.{Marks};
+ghost use Rattle.columns.specs.Lanes.{LanesOf};
 
-use crate::HallRecord;
+use columns::Lanes;
 
 // Of a hall that does not fall apart all rows together join.
-pub fn is_openable(hall: HallRecord) -> bool
-    requires { Ends hall.n hall.count hall.tails hall.heads × ((h : Hall) × Columns h hall.n hall.count hall.tails hall.heads) }
-    ensures { (h : Hall) → Columns h hall.n hall.count hall.tails hall.heads → Ranged h → Linked h → Marks h hall.fixed → result ≡ openable h }
+pub fn is_openable(lanes: &Lanes, fixed: &[bool; 256]) -> bool
+    requires { (h : Hall) × LanesOf h lanes.now }
+    ensures { (h : Hall) → LanesOf h lanes.now → Ranged h → Linked h → Marks h fixed.now → result ≡ openable h }
 {
-    if !choice::any_flagged(&hall.fixed) {
+    if !choice::any_flagged(fixed) {
         return true;
     }
-    let unfixed = choice::unflagged(&hall.fixed);
-    let missed = choice::missed_shore(hall.n, hall.count, &hall.tails, &hall.heads, &unfixed);
-    missed == 0
+    choice::missed_shore(lanes, &choice::unflagged(fixed)).is_none()
 }

@@ -1,72 +1,94 @@
 // The calls of the C library, as include/himalowen.h declares them: a reply is an array of numbers, in the order of its fields. `himalowen_c` exports them.
 #![tactic(auto)]
 
-ghost use Rattle.std.specs.Prelude.{◌≡◌};
+ghost use Rattle.std.specs.Prelude.{◌≡◌, ◌∷◌, ◌-◌, ◌≤◌, replicate};
+ghost use Rattle.refusals.specs.Kinds.{refusal_of, answered};
 ghost use Rattle.himalowen.specs.Replies.{CheckLeaves, TightLeaves, RouteLeaves, PlanLeaves, told_places, routed_places, planned_places};
 
-use answers::Told;
+use answers::Finding;
 use planning::Planned;
-use routing::Routed;
+use refusals::Kind;
+use routing::Way;
 
-fn told_places(told: Told) -> [u64; 4]
+// The number of a reply's refusal, 0 for none: C callers read a number.
+#[tactic(auto, unfolding(refusals::specs::Kinds::answered, hall::specs::File::refusal))]
+fn number_of<T: Copy>(reply: Result<T, Kind>) -> u32
+    ensures { result ≡ (answered reply).number }
+{
+    match reply {
+        Ok(_) => 0,
+        Err(kind) => kind.number(),
+    }
+}
+
+// The places of a refusal: its number, its row, and zeros.
+fn refused<const N: usize>(kind: Kind) -> [u64; N]
+    requires { 2 ≤ N }
+    ensures { result ≡ (refusal_of kind).number ∷ (refusal_of kind).place ∷ replicate (N - 2) 0 }
+{
+    let mut places = [0; N];
+    places[0] = u64::from(kind.number());
+    places[1] = u64::from(kind.row());
+    places
+}
+
+// Each of the three replies has figures of its own; number, row and zeros of a refusal are written in `refused` alone.
+#[tactic(auto, unfolding(crate::specs::Replies::told_places, refusals::specs::Kinds::answered, refusals::specs::Kinds::figure, hall::specs::File::refusal))]
+fn told_places(told: Result<Finding, Kind>) -> [u64; 4]
     ensures { result ≡ told_places told }
 {
-    let refusal = told.refusal;
-    let found = told.found;
-    let number = refusals::number_of(refusal);
-    let row = refusals::row_of(refusal);
-    let outcome = answers::outcome_of(found);
-    let set = answers::set_of(found);
-    [number as u64, row as u64, outcome as u64, set]
+    match told {
+        Ok(found) => [0, 0, u64::from(found.outcome()), found.set()],
+        Err(kind) => refused(kind),
+    }
 }
 
-fn routed_places(routed: Routed) -> [u64; 5]
+#[tactic(auto, unfolding(crate::specs::Replies::routed_places, refusals::specs::Kinds::answered, refusals::specs::Kinds::figure, hall::specs::File::refusal))]
+fn routed_places(routed: Result<Way, Kind>) -> [u64; 5]
     ensures { result ≡ routed_places routed }
 {
-    let refusal = routed.refusal;
-    let way = routed.way;
-    let number = refusals::number_of(refusal);
-    let row = refusals::row_of(refusal);
-    let outcome = routing::outcome_of(way);
-    let set = routing::set_of(way);
-    let filled = routing::filled_of(way);
-    [number as u64, row as u64, outcome as u64, set, filled]
+    match routed {
+        Ok(way) => [0, 0, u64::from(way.outcome()), way.set(), way.filled()],
+        Err(kind) => refused(kind),
+    }
 }
 
-fn planned_places(planned: Planned) -> [u64; 6]
+#[tactic(auto, unfolding(crate::specs::Replies::planned_places, refusals::specs::Kinds::answered, refusals::specs::Kinds::figure, hall::specs::File::refusal))]
+fn planned_places(planned: Result<Planned, Kind>) -> [u64; 6]
     ensures { result ≡ planned_places planned }
 {
-    let refusal = planned.refusal;
-    let number = refusals::number_of(refusal);
-    let row = refusals::row_of(refusal);
-    [
-        number as u64,
-        row as u64,
-        planned.chosen as u64,
-        planned.cuts as u64,
-        planned.levels as u64,
-        planned.total as u64,
-    ]
+    match planned {
+        Ok(plan) => [
+            0,
+            0,
+            u64::from(plan.chosen),
+            u64::from(plan.cuts),
+            u64::from(plan.levels),
+            u64::from(plan.total),
+        ],
+        Err(kind) => refused(kind),
+    }
 }
 
+#[tactic(auto, unfolding(crate::specs::Replies::CheckLeaves))]
 pub fn himalowen_check(file: &[u8], choice: &[u32], reply: &mut [u64; 4]) -> u32
     ensures { CheckLeaves file.now choice.now result reply.new }
 {
     let told = checking::check_choice(file, choice);
-    let refusal = told.refusal;
     *reply = told_places(told);
-    refusals::number_of(refusal)
+    number_of(told)
 }
 
+#[tactic(auto, unfolding(crate::specs::Replies::TightLeaves))]
 pub fn himalowen_tight(file: &[u8], choice: &[u32], junction: u32, reply: &mut [u64; 4]) -> u32
     ensures { TightLeaves file.now choice.now junction result reply.new }
 {
     let told = neighbourhood::tight_neighbourhood(file, choice, junction);
-    let refusal = told.refusal;
     *reply = told_places(told);
-    refusals::number_of(refusal)
+    number_of(told)
 }
 
+#[tactic(auto, unfolding(crate::specs::Replies::RouteLeaves))]
 pub fn himalowen_route(
     file: &[u8],
     choice: &[u32],
@@ -78,11 +100,11 @@ pub fn himalowen_route(
     ensures { RouteLeaves file.now choice.now from to result reply.new rows.old rows.new }
 {
     let routed = routing::route(file, choice, from, to, rows);
-    let refusal = routed.refusal;
     *reply = routed_places(routed);
-    refusals::number_of(refusal)
+    number_of(routed)
 }
 
+#[tactic(auto, unfolding(crate::specs::Replies::PlanLeaves))]
 pub fn himalowen_plan(
     file: &[u8],
     rows: &mut [u32],
@@ -95,7 +117,6 @@ pub fn himalowen_plan(
         shores.old shores.new weights.old weights.new levels.old levels.new }
 {
     let planned = planning::plan_core(file, rows, shores, weights, levels);
-    let refusal = planned.refusal;
     *reply = planned_places(planned);
-    refusals::number_of(refusal)
+    number_of(planned)
 }

@@ -1,7 +1,7 @@
 // The bytes of an input, all of them or none: a read that fails is not taken for the end.
 #![tactic(auto)]
 
-ghost use Rattle.std.specs.Prelude.{◌≡◌, ◌<◌, [], IfOk, length, take, string_bytes, unwrap_or, option_map};
+ghost use Rattle.std.specs.Prelude.{◌≡◌, ◌<◌, ◌≤◌, [], IfOk, length, take, string_bytes, unwrap_or, option_map};
 ghost use Rattle.std.specs.List.{slice_get};
 ghost use Rattle.std.specs.Io.{ReadsAtMost};
 ghost use Rattle.std.specs.Io.KnownBytes.{Consumes, IsAtEnd};
@@ -9,6 +9,9 @@ ghost use Rattle.std.specs.Io.KnownBytes.{Consumes, IsAtEnd};
 use std::io::{ErrorKind, Read};
 use std::rt::{Env, Files};
 use std::{env, fs, io};
+
+// Room for the bytes of a hall file and one more, by which a longer file is known.
+pub const ROOM: usize = 65_537;
 
 // One read, made again where a signal interrupts it. A proved loop has to end: this one counts to a number that no run reaches.
 fn read_some<R: Read>(reader: &mut R, buf: &mut [u8]) -> io::Result<usize>
@@ -54,11 +57,15 @@ fn open_and_read<R: Files>(rt: &R, name: &str, buf: &mut [u8]) -> io::Result<usi
 }
 
 // The bytes of a file by its name, as many as fit. Where it cannot be opened or read, standard error says why.
-pub fn read_file<R: Files + Eprint>(rt: &R, name: &str, buf: &mut [u8]) -> io::Result<usize>
-    ensures { ReadsAtMost result buf.new }
+pub fn read_file<'a, R: Files + Eprint>(
+    rt: &R,
+    name: &str,
+    buf: &'a mut [u8],
+) -> io::Result<&'a [u8]>
+    ensures { IfOk result (λ bytes. length bytes.now ≤ length buf.old) }
 {
     match open_and_read(rt, name, buf) {
-        Ok(size) => Ok(size),
+        Ok(size) => Ok(&buf[..size]),
         Err(error) => {
             eprintln!(rt; "{name}: {error}")?;
             Err(error)
@@ -72,12 +79,9 @@ pub fn arguments<R: Env + AllocGlobal>(rt: &R) -> io::Result<Vec<String>> {
     Ok(words)
 }
 
-// The word at a place, from 0; the empty text where there is none.
+// The word at a place, from 0; the empty text where there is none, and no option: programs print it as it is.
 pub fn argument(words: &[String], place: usize) -> &str
     ensures { result.now ≡ unwrap_or (option_map string_bytes (slice_get words.now place)) [] }
 {
-    match words.get(place) {
-        Some(word) => word.as_str(),
-        None => "",
-    }
+    words.get(place).map_or("", |word| word.as_str())
 }

@@ -1,165 +1,94 @@
 // A list of cuts beside the rows of a small hall, by the definitions alone.
-ghost use Rattle.std.specs.Prelude.{◌^◌, ◌≤◌, ◌<◌};
+ghost use Rattle.std.specs.Prelude.{◌≡◌, ◌≤◌, length};
 
 use exhaustive::sets;
 use smallhalls::Small;
 
+// Cuts as shores and weights, a shore and its weight at one place of both.
+#[derive(Clone, Copy)]
+pub struct Cuts<'a> {
+    shores: &'a [u64],
+    weights: &'a [u32],
+    ghost paired: { length shores.now ≡ length weights.now },
+    ghost few: { length weights.now ≤ 9 },
+}
+
 // Some junction lies in both sets, one in each only, and one in neither.
 fn cross(whole: u64, a: u64, b: u64) -> bool {
     let both = a & b;
-    (both != 0) & (both != a) & (both != b) & (a | b != whole)
+    both != 0 && both != a && both != b && a | b != whole
 }
 
-// Whether the shore at a place is over all before it and crosses none of them.
-fn follows(whole: u64, shores: &[u64; 126], place: usize) -> bool
-    requires { place < 126 }
-{
-    let mut k: usize = 0;
-    while k < place {
-        if shores[place] <= shores[k] {
-            return false;
-        }
-        if cross(whole, shores[k], shores[place]) {
-            return false;
-        }
-        k += 1;
-    }
-    true
+// Whether no two of the sets cross.
+fn none_cross(whole: u64, sets: &[u64]) -> bool {
+    sets.iter()
+        .all(|a| sets.iter().all(|b| !cross(whole, *a, *b)))
 }
 
 // Whether the set is some junctions of the hall, not all, that no row leaves.
-fn is_shore(hall: Small, set: u64) -> bool
-    requires { (hall.n ≤ 6) × (hall.count ≤ 10) }
-{
-    if set == 0 {
-        return false;
-    }
-    if sets::whole(hall.n) <= set {
-        return false;
-    }
-    let cut = sets::cut_of(hall, set);
-    cut.directed
+fn is_shore(hall: &Small, set: u64) -> bool {
+    set != 0 && set < sets::whole(hall.n) && sets::cut_of(hall.rows.as_slice(), set).is_some()
 }
 
-// Whether these are directed cuts of positive weight, their shores ascending, and no two cross.
-pub fn are_cuts<'a>(
-    hall: Small,
-    shores: &'a [u64; 126],
-    weights: &'a [u32; 126],
-    cuts: usize,
-) -> bool
-    requires { (hall.n ≤ 6) × (hall.count ≤ 10) × (cuts ≤ 9) }
-{
-    let whole = sets::whole(hall.n);
-    let mut k: usize = 0;
-    while k < cuts {
-        if weights[k] == 0 {
-            return false;
-        }
-        if !is_shore(hall, shores[k]) {
-            return false;
-        }
-        if !follows(whole, shores, k) {
-            return false;
-        }
-        k += 1;
-    }
-    true
-}
-
-// The weight where it counts, else 0.
-fn counted(weight: u32, counts: bool) -> u64
-    ensures { result < 2 ^ 32 }
-{
-    if counts { weight as u64 } else { 0 }
-}
-
-// The weights together.
-pub fn sum(weights: &[u32; 126], cuts: usize) -> u64
-    requires { cuts ≤ 9 }
-{
-    let mut sum: u64 = 0;
-    let mut k: usize = 0;
-    while k < cuts {
-        sum = sum + counted(weights[k], true);
-        k += 1;
-    }
-    sum
-}
-
-// The weights of the shores that a row between two junctions enters.
-fn load<'a>(shores: &'a [u64; 126], weights: &'a [u32; 126], cuts: usize, from: u8, to: u8) -> u64
-    requires { cuts ≤ 9 }
-{
-    let mut sum: u64 = 0;
-    let mut k: usize = 0;
-    while k < cuts {
-        let counts = sets::enters(shores[k], from, to);
-        sum = sum + counted(weights[k], counts);
-        k += 1;
-    }
-    sum
-}
-
-// Whether a row may carry the load: a fixed one any, another one up to its price.
-fn carries(price: u8, fixed: bool, load: u64) -> bool {
-    fixed | (load <= price as u64)
-}
-
-// Whether every row may carry its load.
-pub fn loads_fit<'a>(
-    hall: Small,
-    shores: &'a [u64; 126],
-    weights: &'a [u32; 126],
-    cuts: usize,
-) -> bool
-    requires { (hall.count ≤ 10) × (cuts ≤ 9) }
-{
-    let count = hall.count;
-    let mut i: usize = 0;
-    while i < count {
-        let load = load(shores, weights, cuts, hall.from[i], hall.to[i]);
-        if !carries(hall.price[i], hall.fixed[i], load) {
-            return false;
-        }
-        i += 1;
-    }
-    true
-}
-
-// The level is one sum less the other.
+// Whether the level is one sum less the other.
 fn is_level(level: i32, sum: u64, base: u64) -> bool {
-    if base <= sum {
-        if 2_147_483_647 < sum - base {
-            return false;
-        }
-        return level == (sum - base) as i32;
-    }
-    if 2_147_483_647 < base - sum {
-        return false;
-    }
-    let below = 0 - ((base - sum) as i32);
-    level == below
+    i128::from(level) == i128::from(sum) - i128::from(base)
 }
 
-// Whether each junction's level is the weights of the shores that hold it less those of junction 1; no shore holds 0.
-pub fn are_levels<'a>(
-    n: usize,
-    shores: &'a [u64; 126],
-    weights: &'a [u32; 126],
-    cuts: usize,
-    levels: &'a [i32; 64],
-) -> bool
-    requires { (n ≤ 6) × (cuts ≤ 9) }
-{
-    let base = load(shores, weights, cuts, 0, 1);
-    let mut k: usize = 0;
-    while k < n {
-        let sum = load(shores, weights, cuts, 0, (k + 1) as u8);
-        if !is_level(levels[k], sum, base) {
-            return false;
+impl<'a> Cuts<'a> {
+    // None where the lists are not of one length, or longer than those of a small hall.
+    pub fn of(shores: &'a [u64], weights: &'a [u32]) -> Option<Cuts<'a>> {
+        if shores.len() == weights.len() && weights.len() <= 9 {
+            Some(Cuts { shores, weights })
+        } else {
+            None
         }
-        k += 1;
     }
-    true
+
+    // Whether these are directed cuts of positive weight, their shores ascending, and no two cross.
+    pub fn are_cuts(&self, hall: &Small) -> bool {
+        self.weights.iter().all(|weight| *weight != 0)
+            && self.shores.iter().all(|shore| is_shore(hall, *shore))
+            && self.shores.is_sorted_by(|shore, next| shore < next)
+            && none_cross(sets::whole(hall.n), self.shores)
+    }
+
+    // The weights of the shores that count.
+    fn weight<F: Fn(u64) -> bool>(&self, counts: F) -> u64
+        requires { F.IsAlwaysCallable counts }
+    {
+        let mut sum = 0;
+        for (shore, weight) in self.shores.iter().zip(self.weights) {
+            if counts(*shore) {
+                sum += u64::from(*weight);
+            }
+        }
+        sum
+    }
+
+    // The weights together.
+    pub fn sum(&self) -> u64 {
+        self.weight(|_| true)
+    }
+
+    // The weights of the shores that a row between two junctions enters.
+    fn load(&self, from: u8, to: u8) -> u64 {
+        self.weight(|shore| sets::enters(shore, from, to))
+    }
+
+    // Whether every row may carry its load: a fixed one any, another one up to its price.
+    pub fn loads_fit(&self, hall: &Small) -> bool {
+        hall.rows.iter().all(|row| {
+            row.price
+                .is_none_or(|price| self.load(row.from, row.to) <= u64::from(price))
+        })
+    }
+
+    // Whether each junction's level is the weights of the shores that hold it less those of junction 1; no shore holds 0.
+    pub fn are_levels(&self, levels: &[i32]) -> bool {
+        let base = self.load(0, 1);
+        (1..)
+            .zip(levels)
+            .all(|(j, level)| is_level(*level, self.load(0, j), base))
+    }
 }

@@ -9,3 +9,4 @@ pub mod Single
 pub mod Gather
 pub mod Taking
 pub mod Adding
+pub mod Without

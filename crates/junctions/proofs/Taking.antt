@@ -1,16 +1,17 @@
 -- A set taken member by member, the lowest first: what is found among those taken and what is left make up what the whole set has. Assumes nothing.
 use mathlib.Core.Path.{◌≡◌, refl, sym, ap, ap₂, ◌∙◌}
 use mathlib.Core.Bool.{Bool, true, false, ◌&&◌, ◌||◌, not, or-false, and-false}
-use Prim.Native.Nat.{ℕ, suc, ◌+◌, ◌-◌, ◌^◌, ◌≤◌, ◌<◌}
+use Prim.Native.Nat.{ℕ, suc, ◌+◌, ◌≤◌}
 use native.Mathlib.Omega.{arith}
-use lib.Bits.{bit_and, bit_or}
+use lib.Bits.{bit_or}
 use lib.Count.{count_trailing_zeros}
 use lib.Dec.{eqb}
 use lib.Pow.{pow_mono}
 use borrow.Author.Tests.{eqb-true}
 use Rattle.laws.proofs.Booleans.{by_bool}
 use Rattle.laws.proofs.Growth.{lt_two_pow}
-use Rattle.junctions.specs.Sets.{holds, Within}
+use Rattle.junctions.specs.Sets.{holds}
+use Rattle.junctions.specs.Taking.{Taken}
 use Rattle.junctions.proofs.Sets.{sets_ext, lowest_is, or_holds, none_holds}
 use Rattle.junctions.proofs.Words.{clear_holds}
 
@@ -20,20 +21,17 @@ sets_same s t same =
     sets_ext (s + t) s t (omega (arith, lt_two_pow s, pow_mono {i = s} {j = s + t} (omega arith))) (omega (arith, lt_two_pow t, pow_mono {i = t} {j = s + t} (omega arith)))
     (λ j l m. same j l)
 
-pub within_self : (s : ℕ) → Within s s
-unfolding Within
-within_self s j l t = t
-
--- the lowest member is one, and the others are left
-module _ (s low : ℕ) (some : 0 < s) (fits : s < 2 ^ 64) (lowest : low ≡ count_trailing_zeros 64 s) where
+-- the place that an iterator takes is that of a member, and the others are left
+module _ {s low left : ℕ} (t : Taken s low left) where
   low_place : suc low ≡ count_trailing_zeros 64 s + 1
-  low_place = omega (arith, lowest)
+  low_place = omega (arith, t.lowest)
 
-  pub low_in : (i : ℕ) → eqb i (suc low) ≡ true → holds s i ≡ true
-  low_in i e = ap (holds s) (eqb-true i (suc low) e ∙ low_place) ∙ (lowest_is s some fits).in_it
+  pub taken_in : holds s (suc low) ≡ true
+  taken_in = ap (holds s) low_place ∙ (lowest_is s t.some t.fits).in_it
 
-  pub left_holds : (i : ℕ) → 1 ≤ i → holds (bit_and s (s - 1)) i ≡ (holds s i && not (eqb i (suc low)))
-  left_holds i l = clear_holds s i some fits l ∙ ap (λ (k : ℕ). holds s i && not (eqb i k)) (sym low_place)
+  pub taken_left : (i : ℕ) → 1 ≤ i → holds left i ≡ (holds s i && not (eqb i (suc low)))
+  taken_left i l =
+      ap (λ (k : ℕ). holds k i) t.rest ∙ clear_holds s i t.some t.fits l ∙ ap (λ (k : ℕ). holds s i && not (eqb i k)) (sym low_place)
 
 -- one member apart
 one_apart : (found left test here : Bool) → (here ≡ true → left ≡ true) → ((found || (test && here)) || ((left && not here) && test)) ≡ (found || (left && test))
@@ -53,15 +51,15 @@ pub found_none : (test : ℕ → Bool) (set : ℕ) → Found test set 0 set
 found_none test set = record { all = λ y l. rw (none_holds y) }
 
 pub found_more :
-    (test : ℕ → Bool) (set found left here low : ℕ) → 0 < left → left < 2 ^ 64 → low ≡ count_trailing_zeros 64 left →
+    (test : ℕ → Bool) (set found left here low others : ℕ) → Taken left low others →
     ((i : ℕ) → 1 ≤ i → holds here i ≡ (test (suc low) && eqb i (suc low))) → Found test set found left →
-    Found test set (bit_or found here) (bit_and left (left - 1))
-found_more test set found left here low some fits lowest is before =
+    Found test set (bit_or found here) others
+found_more test set found left here low others t is before =
     record {
       all = λ y l.
           ap₂ ◌||◌ (or_holds found here y ∙ ap (λ (b : Bool). holds found y || b) (is y l ∙ same_test y))
-          (ap (λ (b : Bool). b && test y) (left_holds left low some fits lowest y l))
-          ∙ one_apart (holds found y) (holds left y) (test y) (eqb y (suc low)) (low_in left low some fits lowest y)
+          (ap (λ (b : Bool). b && test y) (taken_left t y l))
+          ∙ one_apart (holds found y) (holds left y) (test y) (eqb y (suc low)) (λ e. ap (holds left) (eqb-true y (suc low) e) ∙ taken_in t)
           ∙ before.all y l;
     }
   where

@@ -5,7 +5,7 @@ use Prim.Native.Nat.{ℕ, ◌+◌, ◌-◌, ◌*◌, ◌^◌, ◌≤◌, ◌<◌
 use native.Mathlib.Omega.{arith}
 use lib.Dec.{eqb}
 use lib.Count.{count_trailing_zeros}
-use lib.Bits.{and_le_r, bit_xor, xor_add_and, bit_and}
+use lib.Bits.{bit_xor, xor_add_and, bit_and}
 use Rattle.junctions.specs.Sets.{holds}
 use Rattle.junctions.proofs.Bits.{and_pow, trailing_bit, clear_lowest}
 use Rattle.junctions.proofs.Sets.{less_holds, one_holds}
@@ -21,6 +21,3 @@ clear_holds s i p h l =
     clear_lowest 64 s p h ∙ omega (arith, xor_add_and s (bit_and s (2 ^ t)), inside, one) in
     ap (λ (m : ℕ). holds m i) less ∙ less_holds s (2 ^ t) i
     ∙ ap (λ (b : Bool). holds s i && not b) (ap (λ (m : ℕ). holds (2 ^ m) i) (sym e) ∙ one_holds i (t + 1) l (omega arith))
-
-pub clear_less : (s : ℕ) → 0 < s → bit_and s (s - 1) < s
-clear_less s p = omega (arith, and_le_r s (s - 1))

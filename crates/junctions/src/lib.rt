@@ -2,10 +2,13 @@
 #![tactic(auto)]
 
 ghost use Rattle.std.specs.Prelude.{◌≡◌, ◌&&◌, ℕ, suc, ◌≤◌, ◌<◌, eqb};
+ghost use Rattle.std.specs.Int.Bits.{bit_or};
 ghost use Rattle.std.specs.Int.Count.{count_trailing_zeros};
+ghost use Rattle.std.specs.Iterator.{at_most};
 ghost use Rattle.junctions.specs.Sets.{holds, full};
+ghost use Rattle.junctions.specs.Taking.{TakesLowest};
 
-#[derive(Clone, Copy)]
+#[derive(Clone, Copy, PartialEq, Eq, Debug)]
 pub struct Junctions(pub u64);
 
 impl Junctions {
@@ -17,49 +20,36 @@ impl Junctions {
         ensures { result.0 ≡ full n }
     {
         if n == 64 {
-            Junctions(0xffff_ffff_ffff_ffff)
+            Junctions(u64::MAX)
         } else {
             Junctions((1 << n) - 1)
         }
     }
 
+    // A junction is a plain number from 1, here and above: a type for it would be made anew of a loop's index at each call, where the check finds the bounds alone.
     pub fn holds(self, j: usize) -> bool
         requires { (1 ≤ j) × (j ≤ 64) }
         ensures { result ≡ holds self.0 j }
     {
-        (self.0 >> (j - 1)) % 2 == 1
+        has(self.0, j - 1)
     }
 }
 
-// The place of a junction in an array of 64, from 0.
-pub fn place(junction: u8) -> usize
-    requires { (1 ≤ junction) × (junction ≤ 64) }
-    ensures { (suc result ≡ junction) × (result < 64) }
-{
-    (junction as usize) - 1
-}
-
-// The number of a junction.
-pub fn number(junction: u8) -> usize
-    ensures { result ≡ junction }
-{
-    junction as usize
-}
-
 // The place of the set's lowest junction.
-pub fn lowest(set: u64) -> usize
+fn lowest(set: u64) -> usize
     requires { 0 < set }
     ensures { (result ≡ count_trailing_zeros 64 set) × (result < 64) }
 {
-    u64::trailing_zeros(set) as usize
+    set.trailing_zeros() as usize
 }
 
 // The set of the junction at a place where it is there, else the empty set.
+// A flag beside a place: as a bit that is moved, since every row of a zero graph makes two such sets.
 pub fn lone(there: bool, place: usize) -> u64
     requires { place < 64 }
     ensures { (i : ℕ) → 1 ≤ i → holds result i ≡ (there && eqb i (suc place)) }
 {
-    (there as u64) << place
+    u64::from(there) << place
 }
 
 // The set holds the junction at a place.
@@ -68,4 +58,42 @@ pub fn has(set: u64, place: usize) -> bool
     ensures { result ≡ holds set (suc place) }
 {
     (set >> place) % 2 == 1
+}
+
+// The places of a set's junctions, from 0, the lowest first.
+#[derive(Clone, Copy)]
+pub struct Places {
+    left: u64,
+}
+
+impl Places {
+    pub fn of(set: u64) -> Places
+        ensures { result.left ≡ set }
+    {
+        Places { left: set }
+    }
+
+    // The places of more junctions too.
+    pub fn add(&mut self, more: u64)
+        ensures { self.new.left ≡ bit_or self.old.left more }
+    {
+        self.left |= more;
+    }
+}
+
+impl Iterator for Places {
+    type Item = usize;
+
+    ghost next_gives = { TakesLowest };
+
+    ghost remaining = { λ s. at_most s.left };
+
+    fn next(&mut self) -> Option<usize> {
+        if self.left == 0 {
+            return None;
+        }
+        let place = lowest(self.left);
+        self.left &= self.left - 1;
+        Some(place)
+    }
 }

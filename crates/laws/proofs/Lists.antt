@@ -1,4 +1,4 @@
--- A test that everything in a list passes gives a property of each, lists that pass the test of sameness are equal, a list of one value has it everywhere, a list filled from the front is filled place by place, and its first places are what it was filled with. Assumes nothing.
+-- A test that everything in a list passes gives a property of each, lists that pass the test of sameness are equal, a list of one value has it everywhere, the place of one number later, a list filled from the front is filled place by place, and its first places are what it was filled with. Assumes nothing.
 use mathlib.Core.Path.{◌≡◌, refl, sym, ap, ◌∙◌}
 use mathlib.Core.Bool.{Bool, true}
 use mathlib.Core.List.{List, [], ◌∷◌, ◌++◌}
@@ -8,7 +8,7 @@ use lib.Dec.{ltb}
 use lib.ListN.{length, get_or, set, take, drop, replicate, length-append, length-drop, get_or-append}
 use lib.Seq.{ext_get_or, get_or-append-add, get_or-drop, take_at}
 use borrow.Author.Tests.{ltb-true, ltb-false}
-use Rattle.laws.specs.Lists.{all_in, all_of, Each, same_list, in_front}
+use Rattle.laws.specs.Lists.{at, all_in, all_of, Each, same_list, in_front}
 use Rattle.laws.proofs.Booleans.{by_bool, clash, and_l, and_r}
 
 pub each_in : {A : Type 0} (p : A → Bool) (P : A → Type 0) → ((x : A) → p x ≡ true → P x) → (xs : List A) → all_in p xs ≡ true → Each P xs
@@ -34,6 +34,10 @@ same_list_true same law (x ∷ xs) (y ∷ ys) t =
     cc
 
 -- past the end too, where that value stands for what is missing
+-- the place of junction or row k + 1
+pub at-suc : (xs : List ℕ) (k : ℕ) → at xs (suc k) ≡ get_or xs k 0
+at-suc xs k = let e : suc k - 1 ≡ k = omega arith in ap (λ (i : ℕ). get_or xs i 0) e
+
 pub replicate-at : {A : Type 0} (n i : ℕ) (d : A) → get_or (replicate n d) i d ≡ d
 replicate-at zero i d = refl
 replicate-at (suc n) zero d = refl

@@ -11,9 +11,6 @@ pub negative_fits : (d : ℕ) → d < 2 ^ 31 → SFits w32 (pos 0 -ℤ pos d)
 negative_fits zero h = record { sfits = omega arith }
 negative_fits (suc d) h = subst (SFits w32) (sym (+ℤ_idl (negsuc d))) (record { sfits = omega arith })
 
-pub below_zero_fits : (d : ℕ) → d < 2 ^ 31 → SFits w32 (pos 0 -ℤ to_z w32 d)
-below_zero_fits d h = rw (to_z_pos w32 d h) (negative_fits d h)
-
 negative_is : (d : ℕ) → 1 ≤ d → pos 0 -ℤ pos d ≡ negsuc (d - 1)
 negative_is d l = let e : d ≡ suc (d - 1) = omega arith in ap (λ (k : ℕ). pos 0 -ℤ pos k) e ∙ +ℤ_idl (negsuc (d - 1))
 

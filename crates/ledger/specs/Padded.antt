@@ -1,4 +1,4 @@
--- Columns whose first places are given, prices within the limit, and charges. Assumes nothing: these are definitions.
+-- Columns whose first places are given, and charges. Assumes nothing: these are definitions.
 use Rattle.std.specs.Prelude.{◌≡◌, Bool, false, List, ℕ, ◌≤◌, ◌<◌, get_or, length}
 use Rattle.order.specs.Ranked.{charge_of}
 
@@ -7,10 +7,6 @@ pub record Padded (size : ℕ) (f : ℕ → ℕ) (k : ℕ) (column : List ℕ) :
   pub long : length column ≡ size
   pub first : (i : ℕ) → i < k → get_or column i 0 ≡ f i
   pub rest : (i : ℕ) → k ≤ i → get_or column i 0 ≡ 0
-
--- none of the first m prices is over 1,000,000
-abbrev pub PricesLow : (m : ℕ) → (prices : List ℕ) → Type 0
-PricesLow m prices = (k : ℕ) → k < m → get_or prices k 0 ≤ 1000000
 
 -- the charge of the row at place k
 abbrev pub charged : (prices : List ℕ) → (fixed : List Bool) → (k : ℕ) → ℕ

@@ -1,44 +1,48 @@
 // Costs from prices and marks, and a potential for the ranked costs.
 ghost use Rattle.std.specs.Prelude.{◌≡◌, ℕ, ◌+◌, ◌*◌, ◌^◌, ◌≤◌, ◌<◌, get_or};
 ghost use Rattle.order.specs.Ranked.{charge_of};
-ghost use Rattle.ledger.specs.Padded.{Padded, charged, PricesLow};
+ghost use Rattle.columns.specs.Prices.{PricesLow};
+ghost use Rattle.ledger.specs.Padded.{Padded, charged};
+
+use columns::Costs;
 
 // More than 256 prices together: what no choice costs.
 const FIXED: u64 = 256_000_001;
 
 // The charge of a row: its price, or more than any choice costs.
+#[tactic(auto, unfolding(order::specs::Ranked::charge_of))]
 fn charge(price: u32, fixed: bool) -> u64
     ensures { result ≡ charge_of fixed price }
 {
-    if fixed { FIXED } else { price as u64 }
+    if fixed { FIXED } else { u64::from(price) }
+}
+
+// The costs of the first m rows, `by` times the charge and `extra` each. A hall's record in place of m and the columns would ask more of callers.
+fn costs(m: usize, prices: &[u32; 256], fixed: &[bool; 256], by: u64, extra: u64) -> Costs
+    requires { (m ≤ 256) × (by ≤ 257) × (extra ≤ 1) }
+    ensures { Padded 256 (λ (k : ℕ). by * charged prices.now fixed.now k + extra) m result.rows }
+{
+    let mut rows = [0u64; 256];
+    for k in 0..m {
+        rows[k] = by * charge(prices[k], fixed[k]) + extra;
+    }
+    Costs { rows }
 }
 
 // The charges of the first m rows.
-pub fn charges<'a>(m: usize, prices: &'a [u32; 256], fixed: &'a [bool; 256]) -> [u64; 256]
+pub fn charges(m: usize, prices: &[u32; 256], fixed: &[bool; 256]) -> Costs
     requires { m ≤ 256 }
-    ensures { Padded 256 (charged prices.now fixed.now) m result }
+    ensures { Padded 256 (charged prices.now fixed.now) m result.rows }
 {
-    let mut costs = [0u64; 256];
-    let mut k: usize = 0;
-    while k < m {
-        costs[k] = charge(prices[k], fixed[k]);
-        k += 1;
-    }
-    costs
+    costs(m, prices, fixed, 1, 0)
 }
 
 // The ranked costs of the first m rows: they decide by total, then by row count.
-pub fn ranked_costs<'a>(m: usize, prices: &'a [u32; 256], fixed: &'a [bool; 256]) -> [u64; 256]
+pub fn ranked_costs(m: usize, prices: &[u32; 256], fixed: &[bool; 256]) -> Costs
     requires { (m ≤ 256) × PricesLow m prices.now }
-    ensures { Padded 256 (λ (k : ℕ). 257 * charged prices.now fixed.now k + 1) m result }
+    ensures { Padded 256 (λ (k : ℕ). 257 * charged prices.now fixed.now k + 1) m result.rows }
 {
-    let mut costs = [0u64; 256];
-    let mut k: usize = 0;
-    while k < m {
-        costs[k] = 257 * charge(prices[k], fixed[k]) + 1;
-        k += 1;
-    }
-    costs
+    costs(m, prices, fixed, 257, 1)
 }
 
 // The potential, every level 257 times as high.
@@ -47,10 +51,8 @@ pub fn scaled(potential: &[u64; 64]) -> [u64; 64]
     ensures { Padded 64 (λ (k : ℕ). 257 * get_or potential.now k 0) 64 result }
 {
     let mut levels = [0u64; 64];
-    let mut j: usize = 0;
-    while j < 64 {
+    for j in 0..64 {
         levels[j] = 257 * potential[j];
-        j += 1;
     }
     levels
 }

@@ -1,7 +1,7 @@
 -- Sums of weights as sums over places, differences in 32 bits, and levels place by place. Assumes nothing.
 use mathlib.Core.Path.{◌≡◌, refl, sym, ap, ap₂, ◌∙◌}
 use mathlib.Core.Bool.{cond}
-use mathlib.Core.List.{List}
+use mathlib.Core.List.{List, ◌∷◌}
 use Prim.Native.Nat.{ℕ, zero, suc, ◌+◌, ◌-◌, ◌^◌, ◌≤◌, ◌<◌}
 use native.Mathlib.Numerals.{add-one}
 use native.Mathlib.Omega.{arith}
@@ -10,7 +10,7 @@ use lib.IntN.{ℤ, pos, negsuc, ◌-ℤ◌}
 use lib.ListN.{get_or, length, set, length-set, take}
 use lib.Seq.{get_or-set_same, get_or-set_other, get_or-take, length-take-le, ext_get_or}
 use mir.Syntax.{w32}
-use mir.Val.{SFits, to_z, of_z}
+use mir.Val.{to_z, of_z}
 use mir.ValLaws.{to_z_pos}
 use borrow.Author.Count.{below_more}
 use borrow.Author.Tests.{le-leb, lt-leb}
@@ -18,10 +18,11 @@ use Rattle.laws.specs.Finite.{sum_below}
 use Rattle.laws.proofs.Booleans.{cond_true, cond_false}
 use Rattle.laws.proofs.Counts.{sum_head}
 use Rattle.laws.proofs.Finite.{sum_ext}
-use Rattle.laws.proofs.Signs.{below_zero_fits, below_zero_is}
+use Rattle.laws.proofs.Signs.{below_zero_is}
 use Rattle.junctions.specs.Sets.{holds}
 use Rattle.hall.specs.Hall.{Hall}
 use Rattle.hall.specs.Plan.{Cut, cut, level_sum, difference, levels_from, levels}
+use Rattle.shorelist.specs.Listed.{place_of}
 use Rattle.levels.specs.Levels.{cuts_in, Near, Levelled}
 
 -- one place more
@@ -45,6 +46,20 @@ level_all shores weights j count =
     let f : ℕ → ℕ = λ k. cond (holds (shores k) j) (weights k) 0 in
     sum_ext count f (λ k. f (0 + k)) (λ k l. let e : k ≡ 0 + k = omega arith in ap f e) ∙ sym (level_places shores weights j count 0)
 
+-- the cuts of the first places are those of the whole columns
+cuts_same : (m i : ℕ) (ss ws ss' ws' : ℕ → ℕ) → ((k : ℕ) → k < i + m → ss k ≡ ss' k) → ((k : ℕ) → k < i + m → ws k ≡ ws' k) → cuts_in m i ss ws ≡ cuts_in m i ss' ws'
+unfolding cuts_in
+cuts_same zero i ss ws ss' ws' p q = refl
+cuts_same (suc m) i ss ws ss' ws' p q =
+    ap₂ (λ (c : Cut) (cs : List Cut). c ∷ cs) (ap₂ cut (p i (omega arith)) (q i (omega arith)))
+    (cuts_same m (suc i) ss ws ss' ws' (λ k l. p k (omega arith)) (λ k l. q k (omega arith)))
+
+pub cuts_in_front : (n : ℕ) (ss ws : List ℕ) → n ≤ length ss → n ≤ length ws
+    → cuts_in (length (take n ss)) 0 (place_of (take n ss)) (place_of (take n ws)) ≡ cuts_in n 0 (place_of ss) (place_of ws)
+cuts_in_front n ss ws p q =
+    ap (λ (k : ℕ). cuts_in k 0 (place_of (take n ss)) (place_of (take n ws))) (length-take-le n ss p)
+    ∙ cuts_same n 0 (place_of (take n ss)) (place_of (take n ws)) (place_of ss) (place_of ws) (λ k l. get_or-take n ss k 0 (omega arith)) (λ k l. get_or-take n ws k 0 (omega arith))
+
 -- differences
 pub difference_pos : (a b : ℕ) → b ≤ a → difference a b ≡ pos (a - b)
 unfolding difference
@@ -57,9 +72,6 @@ difference_neg a b l = cond_false (leb b a) (pos (a - b)) (negsuc (b - a - 1)) (
 -- the machine's difference
 pub less_pos : (a b : ℕ) → b ≤ a → a < b + 2 ^ 31 → to_z w32 (a - b) ≡ difference a b
 less_pos a b l h = to_z_pos w32 (a - b) (omega arith) ∙ sym (difference_pos a b l)
-
-pub less_fits : (a b : ℕ) → a < b → b < a + 2 ^ 31 → SFits w32 (pos 0 -ℤ to_z w32 (b - a))
-less_fits a b l h = below_zero_fits (b - a) (omega arith)
 
 pub less_neg : (a b : ℕ) → a < b → b < a + 2 ^ 31 → to_z w32 (of_z w32 (pos 0 -ℤ to_z w32 (b - a))) ≡ difference a b
 less_neg a b l h = below_zero_is (b - a) (omega arith) (omega arith) ∙ sym (difference_neg a b l)

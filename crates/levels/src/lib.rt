@@ -16,22 +16,22 @@ pub fn share(shore: u64, weight: u32, j: usize) -> u64
     ensures { (result ≡ cond (holds shore j) weight 0) × (result < 2 ^ 32) }
 {
     if Junctions(shore).holds(j) {
-        weight as u64
+        u64::from(weight)
     } else {
         0
     }
 }
 
 // The weights of the shores that hold the junction, together.
-pub fn level_sum<'a>(shores: &'a [u64], weights: &'a [u32], count: usize, j: usize) -> u64
-    requires { (count ≤ 125) × (count ≤ length shores.now) × (count ≤ length weights.now) × (1 ≤ j) × (j ≤ 64) }
-    ensures { result ≡ level_sum j (cuts_in count 0 (place_of shores.now) (place_of weights.now)) }
+pub fn level_sum(shores: &[u64], weights: &[u32], j: usize) -> u64
+    requires pairs { length shores.now ≡ length weights.now }
+    requires few { length shores.now ≤ 125 }
+    requires junction { (1 ≤ j) × (j ≤ 64) }
+    ensures { result ≡ level_sum j (cuts_in (length shores.now) 0 (place_of shores.now) (place_of weights.now)) }
 {
-    let mut sum: u64 = 0;
-    let mut k: usize = 0;
-    while k < count {
-        sum = sum + share(shores[k], weights[k], j);
-        k += 1;
+    let mut sum = 0;
+    for (shore, weight) in shores.iter().zip(weights) {
+        sum += share(*shore, *weight, j);
     }
     sum
 }
@@ -42,22 +42,22 @@ pub fn less(a: u64, b: u64) -> i32
     ensures { result ≡ difference a b }
 {
     if b <= a {
-        return (a - b) as i32;
+        (a - b) as i32
+    } else {
+        -((b - a) as i32)
     }
-    0 - ((b - a) as i32)
 }
 
 // The levels of junctions 1 to n into the first n places.
-pub fn fill<'a>(n: usize, shores: &'a [u64], weights: &'a [u32], count: usize, levels: &mut [i32])
-    requires { (n ≤ 64) × (n ≤ length levels.old) × (count ≤ 125) × (count ≤ length shores.now) × (count ≤ length weights.now)
-        × Near n (cuts_in count 0 (place_of shores.now) (place_of weights.now)) }
-    ensures { Levelled (cuts_in count 0 (place_of shores.now) (place_of weights.now)) n levels.old levels.new }
+pub fn fill(n: usize, shores: &[u64], weights: &[u32], levels: &mut [i32])
+    requires pairs { length shores.now ≡ length weights.now }
+    requires few { length shores.now ≤ 125 }
+    requires room { (n ≤ 64) × (n ≤ length levels.old) }
+    requires near { Near n (cuts_in (length shores.now) 0 (place_of shores.now) (place_of weights.now)) }
+    ensures { Levelled (cuts_in (length shores.now) 0 (place_of shores.now) (place_of weights.now)) n levels.old levels.new }
 {
-    let base = level_sum(shores, weights, count, 1);
-    let mut k: usize = 0;
-    while k < n {
-        let sum = level_sum(shores, weights, count, k + 1);
-        levels[k] = less(sum, base);
-        k += 1;
+    let base = level_sum(shores, weights, 1);
+    for k in 0..n {
+        levels[k] = less(level_sum(shores, weights, k + 1), base);
     }
 }

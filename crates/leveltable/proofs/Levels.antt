@@ -3,7 +3,7 @@ use mathlib.Core.Path.{◌≡◌, refl, sym, ap, ap₂, ◌∙◌}
 use mathlib.Core.Bool.{Bool, true, false, ◌&&◌, ◌||◌, cond}
 use mathlib.Core.List.{List}
 use mathlib.Core.Logic.{⊎_elim}
-use Prim.Native.Nat.{ℕ, suc, ◌+◌, ◌-◌, ◌%◌, ◌^◌, ◌≤◌, ◌<◌}
+use Prim.Native.Nat.{ℕ, suc, ◌+◌, ◌%◌, ◌^◌, ◌≤◌, ◌<◌}
 use native.Mathlib.Omega.{arith}
 use lib.Bits.{bit_and, bit_or, or_add_and, and_le_l, and_le_r}
 use lib.Dec.{eqb, leb}
@@ -11,6 +11,7 @@ use lib.ListN.{get_or, length, set, length-set, replicate, length-replicate, get
 use lib.Seq.{get_or-set_same, get_or-set_other}
 use borrow.Author.Tests.{eqb-true, eqb-false, eq-eqb, ne_eqb, leb-true, leb-false, le-leb}
 use Rattle.laws.specs.Lists.{at}
+use Rattle.laws.proofs.Lists.{at-suc}
 use Rattle.laws.proofs.Booleans.{by_bool, clash, and_l, and_r, and_i, or_cases, or_l, or_r, bool_ext, not_true_false, cond_true, cond_false}
 use Rattle.laws.proofs.Connectives.{and_false_l}
 use Rattle.junctions.specs.Sets.{holds}
@@ -60,9 +61,6 @@ or_some a b some =
 module _ (k b kept here : ℕ) (potential values sets : List ℕ) (before : Levels k potential values sets) (key_is : b ≡ get_or potential k 0 % 128)
     (kept_is : kept ≡ cond (eqb (get_or sets b 0) 0) (get_or potential k 0) (get_or values b 0))
     (here_is : (i : ℕ) → 1 ≤ i → holds here i ≡ (eqb kept (get_or potential k 0) && eqb i (suc k))) where
-  next_at : at potential (suc k) ≡ get_or potential k 0
-  next_at = let e : suc k - 1 ≡ k = omega arith in rw e refl
-
   -- a key with no junctions is no earlier junction's
   free_key : (v y : ℕ) → v % 128 ≡ b → get_or sets b 0 ≡ 0 → 1 ≤ y → (leb y k && eqb v (at potential y)) ≡ false
   free_key v y same none l =
@@ -93,11 +91,11 @@ module _ (k b kept here : ℕ) (potential values sets : List ℕ) (before : Leve
       let same : kept ≡ v = sym (get_or-set_same values b kept 0 (omega (arith, before.values_size, key_is))) ∙ ap (λ (i : ℕ). get_or (set values b kept) i 0) (sym q) ∙ given in
       ap₂ ◌||◌
       (ap (λ (i : ℕ). holds (get_or sets i 0) y) q ∙ kept_level y (ap (λ (i : ℕ). i % 128) same ∙ q) l ∙ ap (λ (i : ℕ). leb y k && eqb i (at potential y)) same)
-      (rw e (here_is y l ∙ ap₂ (λ (i j : ℕ). eqb i j && eqb y (suc k)) same (sym next_at))))
+      (rw e (here_is y l ∙ ap₂ (λ (i j : ℕ). eqb i j && eqb y (suc k)) same (sym (at-suc potential k)))))
       (λ e.
       let other = eqb-false (v % 128) b e in
       ap₂ ◌||◌ (before.level v y (sym (get_or-set_other values b (v % 128) kept 0 other) ∙ given) l)
-      (rw e (sym (and_false_l (eqb v (at potential (suc k))) (eqb y (suc k)) (ne_eqb v (at potential (suc k)) (λ q. other (ap (λ (i : ℕ). i % 128) (q ∙ next_at) ∙ sym key_is)))))))
+      (rw e (sym (and_false_l (eqb v (at potential (suc k))) (eqb y (suc k)) (ne_eqb v (at potential (suc k)) (λ q. other (ap (λ (i : ℕ). i % 128) (q ∙ at-suc potential k) ∙ sym key_is)))))))
 
   -- a key that was free gets the junction
   here_some : get_or sets b 0 ≡ 0 → 0 < here
@@ -126,13 +124,10 @@ module _ (k b kept here : ℕ) (potential values sets : List ℕ) (before : Leve
             (λ e.
             let other = eqb-false (at potential y % 128) b e in
             let early : y ≤ k =
-            by_bool (eqb y (suc k)) (λ q. absurd (other (ap (λ (i : ℕ). at potential i % 128) (eqb-true y (suc k) q) ∙ ap (λ (i : ℕ). i % 128) next_at ∙ sym key_is)))
+            by_bool (eqb y (suc k)) (λ q. absurd (other (ap (λ (i : ℕ). at potential i % 128) (eqb-true y (suc k) q) ∙ ap (λ (i : ℕ). i % 128) (at-suc potential k) ∙ sym key_is)))
             (λ q. omega (arith, eqb-false y (suc k) q)) in
             omega (arith, get_or-set_other sets b (at potential y % 128) (bit_or (get_or sets b 0) here) 0 other, before.taken y l early));
       }
-
-pub levels_all : (k n : ℕ) (potential values sets : List ℕ) → k ≤ n → n ≤ k → Levels k potential values sets → Levels n potential values sets
-levels_all k n potential values sets low high before = let e : k ≡ n = omega arith in rw e at before
 
 -- the junctions of a set at a potential that is its key's value
 pub level_meets :

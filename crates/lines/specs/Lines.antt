@@ -2,7 +2,11 @@
 use Rattle.std.specs.Prelude.{cond, List, [], ◌∷◌, ◌++◌, ℕ, zero, suc, ◌+◌, ◌/◌, ◌%◌, ltb, ℤ, pos, negsuc}
 use Rattle.junctions.specs.Sets.{holds}
 use Rattle.hall.specs.Plan.{Cut}
-use Rattle.lines.specs.Placed.{text}
+
+-- the texts one after the other
+unfoldable pub text : List (List ℕ) → List ℕ
+text [] = []
+text (t ∷ ts) = t ++ text ts
 
 -- the bytes of a space, of a line's end, of a minus and of the digit 0
 abbrev pub space : ℕ

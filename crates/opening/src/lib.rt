@@ -6,40 +6,23 @@ ghost use Rattle.opening.specs.Opening.{Opening};
 use hallfile::HallRecord;
 use refusals::Kind;
 
-// A hall and the flags of a choice of its rows, or why there is none.
+// A hall and the flags of a choice of its rows, 256 as the record has places: a call of the library needs no heap.
 #[derive(Clone, Copy)]
 pub struct Opened {
-    pub refusal: Kind,
     pub hall: HallRecord,
     pub chosen: [bool; 256],
 }
 
 // The hall and the flags of a choice, or the first of refusals 2 to 9, 15 and 10.
-pub fn open_choice(file: &[u8], choice: &[u32]) -> Opened
+pub fn open_choice(file: &[u8], choice: &[u32]) -> Result<Opened, Kind>
     ensures { Opening file.now choice.now result }
 {
-    let reading = hallfile::read_hall(file);
-    let refusal = reading.refusal;
-    let hall = reading.hall;
-    let none = [false; 256];
-    if !refusal.is_none() {
-        return Opened {
-            refusal,
-            hall,
-            chosen: none,
-        };
+    let hall = hallfile::read_hall(file)?;
+    if !choice::is_choice(choice, hall.lanes.count as u32, &hall.fixed) {
+        return Err(Kind::Choice);
     }
-    if !choice::is_choice(choice, hall.count as u32, &hall.fixed) {
-        return Opened {
-            refusal: Kind::Choice,
-            hall,
-            chosen: none,
-        };
-    }
-    let chosen = choice::flags(choice);
-    Opened {
-        refusal,
+    Ok(Opened {
         hall,
-        chosen,
-    }
+        chosen: choice::flags(choice),
+    })
 }

@@ -6,11 +6,9 @@ use std::alloc::AllocGlobal;
 use std::io;
 
 // What the system says of an error, without its number.
-fn words_of<'a>(text: &'a str) -> &'a str {
-    match text.split_once(" (os error ") {
-        Some((words, _)) => words,
-        None => text,
-    }
+fn words_of(text: &str) -> &str {
+    text.split_once(" (os error ")
+        .map_or(text, |(words, _)| words)
 }
 
 fn say_why<R: Eprint + AllocGlobal>(rt: &R, error: io::Error) -> io::Result<()> {
@@ -20,10 +18,10 @@ fn say_why<R: Eprint + AllocGlobal>(rt: &R, error: io::Error) -> io::Result<()> 
 }
 
 fn main(rt: HostRuntime) {
-    let mut file = [0u8; 65_537];
-    match input::read_all(&mut rt.reader(), &mut file) {
+    let mut room = [0; input::ROOM];
+    match input::read_all(&mut rt.reader(), &mut room) {
         Ok(size) => {
-            let _ = report::print_list(&rt, &file[..size]);
+            let _ = report::print_list(&rt, &room[..size]);
         }
         Err(error) => {
             let _ = say_why(&rt, error);

@@ -9,62 +9,38 @@ use lib.ListN.{get_or}
 use borrow.Author.Tests.{ltb-true, ltb-false}
 use Rattle.laws.specs.Lists.{at}
 use Rattle.laws.proofs.Booleans.{by_bool}
-use Rattle.hall.specs.Hall.{Hall, row, count}
-use Rattle.dicuts.specs.Shores.{Ranged, Linked, unfixed_row}
+use Rattle.hall.specs.Hall.{Hall, count}
+use Rattle.dicuts.specs.Shores.{unfixed_row}
 use Rattle.joining.proofs.Joining.{joining_mono}
-use Rattle.potentials.specs.Repair.{Repairable, Repaired}
+use Rattle.potentials.specs.Repair.{Repairable}
 use Rattle.potentials.proofs.Same.{cost_same, cost_rows_same, repaired_same}
 use Rattle.potentials.proofs.Starts.{ranked_repairable, ranked-slack}
-use Rattle.order.specs.Ranked.{charge_of, charge, ranked, Plannable}
+use Rattle.order.specs.Ranked.{charge_of, charge, ranked}
 use Rattle.order.proofs.Ranked.{charge_most}
 use Rattle.certificates.proofs.Charges.{rest_cheap}
-use Rattle.columns.specs.Columns.{flagged, Ends, Columns, Marks, Neighbourhoods}
+use Rattle.columns.specs.Columns.{flagged}
 use Rattle.choice.proofs.Marked.{opposite_unfixed}
-use Rattle.zerograph.specs.Low.{Low}
+use Rattle.hallfile.specs.declared.record.HallRecord.{HallRecord}
 use Rattle.repair.specs.declared.State.{State}
 use Rattle.repair.specs.Repairs.{RepairStart}
-use Rattle.ledger.specs.Padded.{Padded, PricesLow, charged}
-use Rattle.plan.specs.Ready.{Modest, Ready, Cheapest}
-
--- the columns hold an accepted hall, its prices and its marks
-pub record Accepted (h : Hall) (n m : ℕ) (tails heads prices : List ℕ) (fixed : List Bool) : Type 0 where
-  pub columns : Columns h n m tails heads
-  pub ranged : Ranged h
-  pub linked : Linked h
-  pub able : Plannable h
-  pub price : (i : ℕ) → 1 ≤ i → i ≤ count h → at prices i ≡ (row h i).price
-  pub marks : Marks h fixed
-
--- A CHOICE OF LEAST TOTAL with its neighbourhoods: P1, P2 and P3 hold for the charges, and no level is over the largest total
-pub record Least (h : Hall) (s : State) : Type 0 where
-  pub repaired : Repaired h (charge h) (at s.potential) (flagged s.chosen)
-  pub around : Neighbourhoods h (flagged s.chosen) s.around
-  pub low : (j : ℕ) → 1 ≤ j → j ≤ 64 → at s.potential j ≤ 256000000
+use Rattle.ledger.specs.Padded.{Padded, charged}
+use Rattle.plan.specs.Ready.{Modest, Ready, Cheapest, Accepted, Least}
 
 -- the flags of the rows that are not fixed
 abbrev pub Others : (fixed rows : List Bool) → Type 0
 Others fixed rows = (k : ℕ) → k < 256 → get_or rows k false ≡ not (get_or fixed k false)
 
-module _ (h : Hall) (n m : ℕ) (tails heads prices : List ℕ) (fixed : List Bool) (rd : Accepted h n m tails heads prices fixed) (ends : Ends n m tails heads) where
-  pub priced : PricesLow m prices
-  priced k l =
-      let e : suc k - 1 ≡ k = omega arith in
-      let here : at prices (suc k) ≡ get_or prices k 0 = ap (λ (x : ℕ). get_or prices x 0) e in
-      omega (arith, rd.price (suc k) (omega arith) (omega (arith, rd.columns.rows)), rd.able.low (suc k) (omega arith) (omega (arith, rd.columns.rows)))
-
-  few : count h ≤ 256
-  few = rd.able.few
-
-  are_charges : (i : ℕ) → 1 ≤ i → i ≤ count h → charged prices fixed (i - 1) ≡ charge h i
+module _ (h : Hall) (x : HallRecord) (rd : Accepted h x) where
+  are_charges : (i : ℕ) → 1 ≤ i → i ≤ count h → charged x.prices x.fixed (i - 1) ≡ charge h i
   unfolding charge
   are_charges i l u = ap₂ charge_of (rd.marks i l u) (rd.price i l u)
 
   -- the rows that are not fixed
-  module _ (rows : List Bool) (others : Others fixed rows) where
+  module _ (rows : List Bool) (others : Others x.fixed rows) where
     are_unfixed : (i : ℕ) → 1 ≤ i → i ≤ count h → flagged rows i ≡ unfixed_row h i
-    are_unfixed = opposite_unfixed h fixed rd.marks few rows others
+    are_unfixed = opposite_unfixed h x.fixed rd.marks rd.able.few rows others
 
-    pub unfixed_ready : Ready h n m tails heads rows
+    pub unfixed_ready : Ready h x.lanes rows
     unfixed_ready =
         record {
           columns = rd.columns;
@@ -73,16 +49,16 @@ module _ (h : Hall) (n m : ℕ) (tails heads prices : List ℕ) (fixed : List Bo
         }
 
   -- at the charges, from the rows that are not fixed
-  module _ (charges : List ℕ) (filled : Padded 256 (charged prices fixed) m charges) where
+  module _ (charges : List ℕ) (filled : Padded 256 (charged x.prices x.fixed) x.lanes.count charges) where
     charge-at : (i : ℕ) → 1 ≤ i → i ≤ count h → at charges i ≡ charge h i
     charge-at i l u = filled.first (i - 1) (omega (arith, rd.columns.rows)) ∙ are_charges i l u
 
     pub charge_modest : Modest charges
     charge_modest k =
-        by_bool (ltb k m) (λ t. let in_it = ltb-true k m t in omega (arith, filled.first k in_it, charge_most (get_or fixed k false) (get_or prices k 0) (priced k in_it)))
-        (λ t. omega (arith, filled.rest k (ltb-false k m t)))
+        by_bool (ltb k x.lanes.count) (λ t. let in_it = ltb-true k x.lanes.count t in omega (arith, filled.first k in_it, charge_most (get_or x.fixed k false) (get_or x.prices k 0) (x.prices_low k in_it)))
+        (λ t. omega (arith, filled.rest k (ltb-false k x.lanes.count t)))
 
-    pub charge_least : (rows : List Bool) → Others fixed rows → (s : State) → Cheapest h charges rows s → Least h s
+    pub charge_least : (rows : List Bool) → Others x.fixed rows → (s : State) → Cheapest h charges rows s → Least h s
     charge_least rows others s end =
         record {
           repaired = repaired_same h rd.ranged (at charges) (charge h) charge-at (at s.potential) (at s.potential) (λ j l u. refl) (flagged s.chosen) (flagged s.chosen) (λ i l u. refl) end.repaired;
@@ -98,35 +74,29 @@ module _ (h : Hall) (n m : ℕ) (tails heads prices : List ℕ) (fixed : List Bo
         }
 
   -- at the ranked costs, from the rows that are not fixed
-  module _ (costs : List ℕ) (filled : Padded 256 (λ k. 257 * charged prices fixed k + 1) m costs) where
+  module _ (costs : List ℕ) (filled : Padded 256 (λ k. 257 * charged x.prices x.fixed k + 1) x.lanes.count costs) where
     pub ranked_modest : Modest costs
     ranked_modest k =
-        by_bool (ltb k m) (λ t. let in_it = ltb-true k m t in omega (arith, filled.first k in_it, charge_most (get_or fixed k false) (get_or prices k 0) (priced k in_it)))
-        (λ t. omega (arith, filled.rest k (ltb-false k m t)))
+        by_bool (ltb k x.lanes.count) (λ t. let in_it = ltb-true k x.lanes.count t in omega (arith, filled.first k in_it, charge_most (get_or x.fixed k false) (get_or x.prices k 0) (x.prices_low k in_it)))
+        (λ t. omega (arith, filled.rest k (ltb-false k x.lanes.count t)))
 
-    pub costs_ranked : (i : ℕ) → 1 ≤ i → i ≤ m → at costs i ≡ ranked h i
+    pub costs_ranked : (i : ℕ) → 1 ≤ i → i ≤ x.lanes.count → at costs i ≡ ranked h i
     unfolding ranked
-    costs_ranked i l u = filled.first (i - 1) (omega arith) ∙ ap (λ (x : ℕ). 257 * x + 1) (are_charges i l (omega (arith, rd.columns.rows)))
+    costs_ranked i l u = filled.first (i - 1) (omega arith) ∙ ap (λ (z : ℕ). 257 * z + 1) (are_charges i l (omega (arith, rd.columns.rows)))
 
   -- at the ranked costs, from what is least at the charges
   module _ (s : State) (least : Least h s) where
     pub level_low : (k : ℕ) → k < 64 → get_or s.potential k 0 < 2 ^ 32
     level_low k l =
         let e : suc k - 1 ≡ k = omega arith in
-        let here : at s.potential (suc k) ≡ get_or s.potential k 0 = ap (λ (x : ℕ). get_or s.potential x 0) e in
+        let here : at s.potential (suc k) ≡ get_or s.potential k 0 = ap (λ (z : ℕ). get_or s.potential z 0) e in
         omega (arith, least.low (suc k) (omega arith) (omega arith))
 
-    module _ (costs : List ℕ) (filled : Padded 256 (λ k. 257 * charged prices fixed k + 1) m costs) (levels : List ℕ) (scaled : Padded 64 (λ k. 257 * get_or s.potential k 0) 64 levels) where
-      pub ranked_low : Low costs
-      ranked_low k =
-          by_bool (ltb k m)
-          (λ t. let in_it = ltb-true k m t in omega (arith, filled.first k in_it, charge_most (get_or fixed k false) (get_or prices k 0) (priced k in_it)))
-          (λ t. omega (arith, filled.rest k (ltb-false k m t)))
-
+    module _ (costs : List ℕ) (filled : Padded 256 (λ k. 257 * charged x.prices x.fixed k + 1) x.lanes.count costs) (levels : List ℕ) (scaled : Padded 64 (λ k. 257 * get_or s.potential k 0) 64 levels) where
       ranked-cost : (i : ℕ) → 1 ≤ i → i ≤ count h → at costs i ≡ 257 * charge h i + 1
-      ranked-cost i l u = filled.first (i - 1) (omega (arith, rd.columns.rows)) ∙ ap (λ (x : ℕ). 257 * x + 1) (are_charges i l u)
+      ranked-cost i l u = filled.first (i - 1) (omega (arith, rd.columns.rows)) ∙ ap (λ (z : ℕ). 257 * z + 1) (are_charges i l u)
 
-      pub ranked-at : (i : ℕ) → 1 ≤ i → i ≤ m → at costs i ≡ ranked h i
+      pub ranked-at : (i : ℕ) → 1 ≤ i → i ≤ x.lanes.count → at costs i ≡ ranked h i
       unfolding ranked
       ranked-at i l u = ranked-cost i l (omega (arith, rd.columns.rows))
 
@@ -134,12 +104,12 @@ module _ (h : Hall) (n m : ℕ) (tails heads prices : List ℕ) (fixed : List Bo
       level_at j l u = scaled.first (j - 1) (omega arith)
 
       inside : (j : ℕ) → 1 ≤ j → j ≤ h.n → at levels j ≡ 257 * at s.potential j
-      inside j l u = level_at j l (omega (arith, rd.columns.junctions, ends.size))
+      inside j l u = level_at j l (omega (arith, rd.columns.junctions, x.lanes.ends.size))
 
       pub ranked_can : Repairable h (at costs) (at levels) (flagged s.chosen)
       ranked_can = ranked_repairable h rd.ranged (charge h) (at s.potential) (flagged s.chosen) 257 (at costs) (at levels) ranked-cost inside least.repaired
 
-      pub ranked_begin : RepairStart n m tails heads costs levels s.chosen s.around
+      pub ranked_begin : RepairStart x.lanes costs (record { chosen = s.chosen; potential = levels; around = s.around })
       ranked_begin =
           record {
             hall = h;
@@ -152,7 +122,7 @@ module _ (h : Hall) (n m : ℕ) (tails heads prices : List ℕ) (fixed : List Bo
                   arith,
                   level_at j l u,
                   least.low j l u,
-                  few,
+                  rd.able.few,
                   ranked-slack h rd.ranged (charge h) (at s.potential) (flagged s.chosen) 257 (at costs) (at levels) ranked-cost inside least.repaired,
                 );
           }

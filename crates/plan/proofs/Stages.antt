@@ -1,27 +1,29 @@
--- From rows that join to the start of repair, and from its end on: the levels of a choice of least cost are low. Assumes nothing.
-use mathlib.Core.Path.{◌≡◌, ap}
+-- From rows that join to the start of repair, and from its end on: the levels of a choice of least cost are low, and it is repaired at the ranked costs. Assumes nothing.
+use mathlib.Core.Path.{◌≡◌, refl}
 use mathlib.Core.Bool.{Bool}
 use mathlib.Core.List.{List}
-use Prim.Native.Nat.{ℕ, suc, ◌-◌, ◌^◌, ◌<◌, ◌≤◌}
+use Prim.Native.Nat.{ℕ, ◌-◌, ◌^◌, ◌<◌, ◌≤◌}
 use native.Mathlib.Nat.{mul-le-mul_right}
 use native.Mathlib.Omega.{arith}
-use lib.Dec.{ltb}
-use lib.ListN.{length, get_or, replicate, get_or-replicate, get_or-eq_default}
-use borrow.Author.Tests.{ltb-true, ltb-false}
+use lib.ListN.{length, get_or, replicate, get_or-replicate}
 use Rattle.laws.specs.Lists.{at}
-use Rattle.laws.proofs.Booleans.{by_bool}
 use Rattle.hall.specs.Hall.{Hall, count}
-use Rattle.dicuts.specs.Shores.{once, Joining}
-use Rattle.columns.specs.Columns.{flagged, Ends, Neighbourhoods}
+use Rattle.dicuts.specs.Shores.{Ranged, once, Joining}
+use Rattle.columns.specs.Columns.{flagged, Neighbourhoods}
+use Rattle.columns.specs.Lanes.{LanesOf}
+use Rattle.columns.specs.declared.Lanes.{Lanes}
 use Rattle.potentials.specs.Potential.{slack, cost}
-use Rattle.potentials.specs.Repair.{Repairable}
+use Rattle.potentials.specs.Repair.{Repairable, Repaired}
+use Rattle.potentials.proofs.Same.{repaired_same}
 use Rattle.potentials.proofs.Starts.{cost_mono, cost_most, flat_repairable, flat_slack}
+use Rattle.order.specs.Ranked.{ranked}
 use Rattle.repair.specs.declared.State.{State}
 use Rattle.repair.specs.Repairs.{RepairStart, RepairEnd}
+use Rattle.repair.proofs.Repairing.{levels_below}
 use Rattle.pruning.specs.Start.{Among}
 use Rattle.plan.specs.Ready.{Modest, Ready, Cheapest}
 
-module _ (h : Hall) (n m : ℕ) (tails heads costs : List ℕ) (rows : List Bool) (rd : Ready h n m tails heads rows) (ends : Ends n m tails heads) (modest : Modest costs) where
+module _ (h : Hall) (ln : Lanes) (costs : List ℕ) (rows : List Bool) (rd : Ready h ln rows) (modest : Modest costs) where
   -- what the rows cost together
   rows_low : cost h (at costs) (flagged rows) < 2 ^ 61
   rows_low =
@@ -29,22 +31,16 @@ module _ (h : Hall) (n m : ℕ) (tails heads costs : List ℕ) (rows : List Bool
         arith,
         cost_most h (at costs) (flagged rows) (2 ^ 53 - 1) (λ i low high t. omega (arith, modest (i - 1))),
         rd.columns.rows,
-        ends.few,
-        mul-le-mul_right {m = count h} {n = 256} (2 ^ 53 - 1) (omega (arith, rd.columns.rows, ends.few)),
+        ln.ends.few,
+        mul-le-mul_right {m = count h} {n = 256} (2 ^ 53 - 1) (omega (arith, rd.columns.rows, ln.ends.few)),
       )
 
   -- no level of a choice of least cost is higher
   pub cheapest_low : (s : State) → length s.potential ≡ 64 → Cheapest h costs rows s → (j : ℕ) → get_or s.potential j 0 < 2 ^ 61
-  cheapest_low s long least j =
-      by_bool (ltb j 64)
-      (λ t.
-      let e : suc j - 1 ≡ j = omega arith in
-      let here : at s.potential (suc j) ≡ get_or s.potential j 0 = ap (λ (x : ℕ). get_or s.potential x 0) e in
-      omega (arith, least.low (suc j) (omega arith) (ltb-true j 64 t), rows_low))
-      (λ t. omega (arith, get_or-eq_default s.potential 0 {n = j} (omega (arith, long, ltb-false j 64 t))))
+  cheapest_low s long least = levels_below (2 ^ 61) s.potential (omega arith) long (λ j l u. omega (arith, least.low j l u, rows_low))
 
 -- the potential 0
-module _ (h : Hall) (n m : ℕ) (tails heads costs : List ℕ) (rows chosen : List Bool) (rd : Ready h n m tails heads rows) (ends : Ends n m tails heads)
+module _ (h : Hall) (ln : Lanes) (costs : List ℕ) (rows chosen : List Bool) (rd : Ready h ln rows)
     (inside : Among chosen rows) (joins : Joining h (once (flagged chosen))) where
   abbrev level : List ℕ
   level = replicate 64 0
@@ -53,7 +49,7 @@ module _ (h : Hall) (n m : ℕ) (tails heads costs : List ℕ) (rows chosen : Li
   zero_level j l u = get_or-replicate 64 (j - 1) 0 0 (omega arith)
 
   flat_level : (j : ℕ) → 1 ≤ j → j ≤ h.n → at level j ≡ 0
-  flat_level j l u = zero_level j l (omega (arith, rd.columns.junctions, ends.size))
+  flat_level j l u = zero_level j l (omega (arith, rd.columns.junctions, ln.ends.size))
 
   -- the slack is at most what the rows cost
   slack_rows : slack h (at costs) (at level) (flagged chosen) ≤ cost h (at costs) (flagged rows)
@@ -68,7 +64,10 @@ module _ (h : Hall) (n m : ℕ) (tails heads costs : List ℕ) (rows chosen : Li
   flat_can = flat_repairable h rd.ranged (at costs) (at level) (flagged chosen) flat_level joins
 
   module _ (near : List ℕ) (around : Neighbourhoods h (flagged chosen) near) where
-    pub flat_start : Modest costs → RepairStart n m tails heads costs (replicate 64 0) chosen near
+    abbrev pub flat : State
+    flat = record { chosen = chosen; potential = level; around = near }
+
+    pub flat_start : Modest costs → RepairStart ln costs flat
     flat_start modest =
         record {
           hall = h;
@@ -76,10 +75,10 @@ module _ (h : Hall) (n m : ℕ) (tails heads costs : List ℕ) (rows chosen : Li
           ranged = rd.ranged;
           repairable = flat_can;
           around = around;
-          bound = λ j l u. omega (arith, zero_level j l u, slack_rows, rows_low h n m tails heads costs rows rd ends modest);
+          bound = λ j l u. omega (arith, zero_level j l u, slack_rows, rows_low h ln costs rows rd modest);
         }
 
-    pub flat_end : (s : State) → RepairEnd h (at costs) (at (replicate 64 0)) (at s.potential) (flagged chosen) (flagged s.chosen) s.around → Cheapest h costs rows s
+    pub flat_end : (s : State) → RepairEnd h (at costs) flat s → Cheapest h costs rows s
     flat_end s end = record {
       repaired = end.repaired;
       around = end.around;
@@ -88,12 +87,14 @@ module _ (h : Hall) (n m : ℕ) (tails heads costs : List ℕ) (rows chosen : Li
 
 -- where repair ends, levels are below 2 to the power 61
 pub end_low :
-    (n m : ℕ) (tails heads costs potential : List ℕ) (chosen : List Bool) (near : List ℕ) (from : RepairStart n m tails heads costs potential chosen near) (q : List ℕ) (G : ℕ → Bool) (nears : List ℕ) →
-    length q ≡ 64 → RepairEnd from.hall (at costs) (at potential) (at q) (flagged chosen) G nears → (j : ℕ) → get_or q j 0 < 2 ^ 61
-end_low n m tails heads costs potential chosen near from q G nears long end j =
-    by_bool (ltb j 64)
-    (λ t.
-    let e : suc j - 1 ≡ j = omega arith in
-    let here : at q (suc j) ≡ get_or q j 0 = ap (λ (x : ℕ). get_or q x 0) e in
-    omega (arith, ltb-true j 64 t, end.bound (suc j) (omega arith) (ltb-true j 64 t), from.bound (suc j) (omega arith) (ltb-true j 64 t)))
-    (λ t. omega (arith, get_or-eq_default q 0 {n = j} (omega (arith, long, ltb-false j 64 t))))
+    (ln : Lanes) (costs : List ℕ) (s t : State) (from : RepairStart ln costs s) → length t.potential ≡ 64 → RepairEnd from.hall (at costs) s t →
+    (j : ℕ) → get_or t.potential j 0 < 2 ^ 61
+end_low ln costs s t from long end = levels_below (2 ^ 61) t.potential (omega arith) long (λ j l u. omega (arith, end.bound j l u, from.bound j l u))
+
+-- at costs that are the ranked ones, what is repaired is repaired at these
+pub ranked_repaired :
+    (h : Hall) (ln : Lanes) → LanesOf h ln → Ranged h → (costs : List ℕ) → ((i : ℕ) → 1 ≤ i → i ≤ ln.count → at costs i ≡ ranked h i) → (s : State) →
+    Repaired h (at costs) (at s.potential) (flagged s.chosen) → Repaired h (ranked h) (at s.potential) (flagged s.chosen)
+ranked_repaired h ln lanes rg costs are s done =
+    repaired_same h rg (at costs) (ranked h) (λ i l u. are i l (omega (arith, lanes.rows))) (at s.potential) (at s.potential) (λ j l u. refl)
+    (flagged s.chosen) (flagged s.chosen) (λ i l u. refl) done

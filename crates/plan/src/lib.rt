@@ -1,4 +1,4 @@
-// Planning over the columns of a hall: a choice of least cost with its potential, then the first of all choices.
+// Planning over the lanes of a hall: a choice of least cost with its potential, then the first of all choices.
 // It stands on the start, the neighbourhoods, repair and the dictionary step; its promises use `Repaired` and `First`.
 #![tactic(auto)]
 
@@ -10,85 +10,51 @@ ghost use Rattle.dicuts.specs.Shores.{Ranged};
 ghost use Rattle.dicuts.specs.Listed.{listed};
 ghost use Rattle.potentials.specs.Repair.{Repairable};
 ghost use Rattle.order.specs.Ranked.{ranked, Plannable};
-ghost use Rattle.columns.specs.Columns.{flagged, Ends, Columns, Neighbourhoods};
-ghost use Rattle.zerograph.specs.Low.{Low};
+ghost use Rattle.columns.specs.Columns.{flagged, Neighbourhoods};
+ghost use Rattle.columns.specs.Lanes.{LanesOf};
 ghost use Rattle.repair.specs.Repairs.{RepairStart};
 ghost use Rattle.plan.specs.Ready.{Modest, Ready, Cheapest};
 
+use columns::{Costs, Lanes};
 use repair::State;
 
 // From rows that join to a choice of least cost, with its potential and its neighbourhoods.
-pub fn cheapest<'a>(
-    n: usize,
-    m: usize,
-    tails: &'a [u8; 256],
-    heads: &'a [u8; 256],
-    costs: &'a [u64; 256],
-    rows: [bool; 256],
-) -> State
-    requires { Ends n m tails.now heads.now × Modest costs.now × ((h : Hall) × Ready h n m tails.now heads.now rows) }
-    ensures { (h : Hall) → Ready h n m tails.now heads.now rows → Cheapest h costs.now rows result }
+pub fn cheapest(lanes: &Lanes, costs: &Costs, rows: [bool; 256]) -> State
+    requires modest { Modest costs.now.rows }
+    requires ready { (h : Hall) × Ready h lanes.now rows }
+    ensures { (h : Hall) → Ready h lanes.now rows → Cheapest h costs.now.rows rows result }
 {
-    let chosen = pruning::start(n, m, tails, heads, costs, rows);
-    let around = tight::neighbourhoods(n, m, tails, heads, &chosen);
-    let level = [0u64; 64];
-    repair::repair(n, m, tails, heads, costs, chosen, level, around)
+    let chosen = pruning::start(lanes, &costs.rows, rows);
+    let around = tight::neighbourhoods(lanes, &chosen);
+    let state = State {
+        chosen,
+        potential: [0; 64],
+        around,
+    };
+    repair::repair(lanes, costs, state)
 }
 
 // From a joining choice and levels for the ranked costs, with its neighbourhoods, to the first choice: least total, fewest rows, then
 // dictionary order.
-pub fn first_choice<'a>(
-    n: usize,
-    m: usize,
-    tails: &'a [u8; 256],
-    heads: &'a [u8; 256],
-    costs: &'a [u64; 256],
-    chosen: [bool; 256],
-    levels: [u64; 64],
-    around: [u64; 64],
-) -> [bool; 256]
-    requires { Ends n m tails.now heads.now × Low costs.now × RepairStart n m tails.now heads.now costs.now levels chosen around }
-    ensures { (h : Hall) → Columns h n m tails.now heads.now → Ranged h → Plannable h →
-        ((i : ℕ) → 1 ≤ i → i ≤ m → at costs.now i ≡ ranked h i) →
-        Repairable h (at costs.now) (at levels) (flagged chosen) → Neighbourhoods h (flagged chosen) around →
+pub fn first_choice(lanes: &Lanes, costs: &Costs, state: State) -> [bool; 256]
+    requires { RepairStart lanes.now costs.now.rows state }
+    ensures { (h : Hall) → LanesOf h lanes.now → Ranged h → Plannable h →
+        ((i : ℕ) → 1 ≤ i → i ≤ lanes.now.count → at costs.now.rows i ≡ ranked h i) →
+        Repairable h (at costs.now.rows) (at state.potential) (flagged state.chosen) → Neighbourhoods h (flagged state.chosen) state.around →
         First h (listed h (flagged result)) }
 {
-    let state = repair::repair(n, m, tails, heads, costs, chosen, levels, around);
-    first::decide_all(
-        n,
-        m,
-        tails,
-        heads,
-        costs,
-        &state.chosen,
-        &state.potential,
-        &state.around,
-    )
+    let repaired = repair::repair(lanes, costs, state);
+    first::decide_all(lanes, costs, repaired)
 }
 
 // From rows that join, at the ranked costs, to the first choice: least total, fewest rows, then dictionary order.
-pub fn first_from_rows<'a>(
-    n: usize,
-    m: usize,
-    tails: &'a [u8; 256],
-    heads: &'a [u8; 256],
-    costs: &'a [u64; 256],
-    rows: [bool; 256],
-) -> [bool; 256]
-    requires { Ends n m tails.now heads.now × Modest costs.now × ((h : Hall) × Ready h n m tails.now heads.now rows) }
-    ensures { (h : Hall) → Ready h n m tails.now heads.now rows → Plannable h →
-        ((i : ℕ) → 1 ≤ i → i ≤ m → at costs.now i ≡ ranked h i) →
+pub fn first_from_rows(lanes: &Lanes, costs: &Costs, rows: [bool; 256]) -> [bool; 256]
+    requires modest { Modest costs.now.rows }
+    requires ready { (h : Hall) × Ready h lanes.now rows }
+    ensures { (h : Hall) → Ready h lanes.now rows → Plannable h →
+        ((i : ℕ) → 1 ≤ i → i ≤ lanes.now.count → at costs.now.rows i ≡ ranked h i) →
         First h (listed h (flagged result)) }
 {
-    let state = cheapest(n, m, tails, heads, costs, rows);
-    first::decide_all(
-        n,
-        m,
-        tails,
-        heads,
-        costs,
-        &state.chosen,
-        &state.potential,
-        &state.around,
-    )
+    let state = cheapest(lanes, costs, rows);
+    first::decide_all(lanes, costs, state)
 }

@@ -2,82 +2,59 @@
 // in `oneplan`.
 #![tactic(auto)]
 
-ghost use Rattle.std.specs.Prelude.{◌≡◌, true, ◌||◌, List, ℕ, ◌≤◌, eqb, ltb, length};
-ghost use Rattle.hall.specs.File.{hall_in, hall_refusal, refusal};
-ghost use Rattle.refusals.specs.Kinds.{refusal_of};
-ghost use Rattle.hallfile.specs.Record.{record_of};
+ghost use Rattle.std.specs.Prelude.{ℕ, ◌≤◌, length};
+ghost use Rattle.hall.specs.Hall.{Hall};
+ghost use Rattle.refusals.specs.Kinds.{answered, figure};
 ghost use Rattle.oneplan.specs.Plan.{PairAs, PairSays};
-ghost use Rattle.planpairs.specs.Refused.{no_cuts};
+ghost use Rattle.plan.specs.Ready.{Accepted, Least};
+ghost use Rattle.planpairs.specs.declared.PlannedCuts.{PlannedCuts};
 
 use hallfile::HallRecord;
 use refusals::Kind;
+use repair::State;
 
-// The reply: how many cuts and levels are listed, 0 where the call was refused.
-#[derive(Clone, Copy)]
+// The reply: how many cuts and levels are listed. The lists are lent, as those of C callers are.
+#[derive(Clone, Copy, PartialEq, Eq, Debug)]
 pub struct PlannedCuts {
-    pub refusal: Kind,
     pub cuts: u32,
     pub levels: u32,
 }
 
-impl PlannedCuts {
-    pub fn refused(refusal: Kind) -> PlannedCuts
-        ensures { result ≡ no_cuts refusal }
-    {
-        PlannedCuts {
-            refusal,
-            cuts: 0,
-            levels: 0,
-        }
-    }
-}
-
-// Some lent list is shorter than cuts and levels may need.
-fn lists_short(shores: usize, weights: usize, levels: usize) -> bool
-    ensures { result ≡ (ltb shores 125 || (ltb weights 125 || ltb levels 64)) }
+// A choice of least total of an accepted hall, with its potential and its neighbourhoods.
+pub fn least(hall: &HallRecord) -> State
+    requires { (h : Hall) × Accepted h hall.now }
+    ensures { (h : Hall) → Accepted h hall.now → Least h result }
 {
-    (shores < 125) | ((weights < 125) | (levels < 64))
+    let charged = ledger::costs::charges(hall.lanes.count, &hall.prices, &hall.fixed);
+    let unfixed = choice::unflagged(&hall.fixed);
+    plan::cheapest(&hall.lanes, &charged, unfixed)
 }
 
-// The cuts and levels of a hall that was read, into lists that are long enough.
-fn pairs_of(
-    hall: HallRecord,
+// The cuts of a choice of least total, which stand beside the first choice too, and the levels, from the front of lists that are long
+// enough. Returns how many cuts there are.
+pub fn list_cuts(
+    hall: &HallRecord,
+    least: &State,
     shores: &mut [u64],
     weights: &mut [u32],
     levels: &mut [i32],
-) -> PlannedCuts
+) -> usize
     requires { (125 ≤ length shores.old) × (125 ≤ length weights.old) × (64 ≤ length levels.old)
-        × ((bs : List ℕ) × (eqb (hall_refusal bs).number 0 ≡ true) × (hall ≡ record_of (hall_in bs))) }
-    ensures { (refusal_of result.refusal ≡ refusal 0 0) × ((bs : List ℕ) → eqb (hall_refusal bs).number 0 ≡ true → hall ≡ record_of (hall_in bs) →
-        PairAs 0 (hall_in bs) result.cuts result.levels shores.old shores.new weights.old weights.new
-        levels.old levels.new) }
+        × ((h : Hall) × Accepted h hall.now × Least h least.now) }
+    ensures { (result ≤ 125) × ((h : Hall) → Accepted h hall.now → Least h least.now →
+        PairAs 0 h result hall.now.lanes.n shores.old shores.new weights.old weights.new levels.old levels.new) }
 {
     let every = [true; 256];
-    let links = adjacency::of_rows(hall.n, hall.count, &hall.tails, &hall.heads, &every);
-    let charged = ledger::costs::charges(hall.count, &hall.prices, &hall.fixed);
-    let unfixed = choice::unflagged(&hall.fixed);
-    let least = plan::cheapest(
-        hall.n,
-        hall.count,
-        &hall.tails,
-        &hall.heads,
-        &charged,
-        unfixed,
-    );
-    let cuts = cuts::fill(
-        hall.n,
+    let links = adjacency::of_rows(&hall.lanes, &every);
+    cuts::fill(
+        hall.lanes.n,
         &links,
         &least.around,
         &least.potential,
         shores,
         weights,
         levels,
-    );
-    PlannedCuts {
-        refusal: Kind::None,
-        cuts: cuts as u32,
-        levels: hall.n as u32,
-    }
+    )
 }
 
 // Cuts beside the first joining choice and the levels of the junctions, from the front of the lent lists: refusal 1 where one is too
@@ -87,18 +64,19 @@ pub fn plan_pairs(
     shores: &mut [u64],
     weights: &mut [u32],
     levels: &mut [i32],
-) -> PlannedCuts
-    ensures { PairSays file.now (refusal_of result.refusal) result.cuts result.levels shores.old shores.new
-        weights.old weights.new levels.old levels.new }
+) -> Result<PlannedCuts, Kind>
+    ensures { PairSays file.now (answered result) (figure (λ (p : PlannedCuts). p.cuts) result) (figure (λ (p : PlannedCuts). p.levels) result)
+        shores.old shores.new weights.old weights.new levels.old levels.new }
 {
-    if lists_short(shores.len(), weights.len(), levels.len()) {
-        return PlannedCuts::refused(Kind::ListShort);
+    let short = (shores.len() < 125) | ((weights.len() < 125) | (levels.len() < 64));
+    if short {
+        return Err(Kind::ListShort);
     }
-    let reading = hallfile::read_hall(file);
-    let refusal = reading.refusal;
-    if !refusal.is_none() {
-        return PlannedCuts::refused(refusal);
-    }
-    let hall = reading.hall;
-    pairs_of(hall, shores, weights, levels)
+    let hall = hallfile::read_hall(file)?;
+    let least = least(&hall);
+    let cuts = list_cuts(&hall, &least, shores, weights, levels);
+    Ok(PlannedCuts {
+        cuts: cuts as u32,
+        levels: hall.lanes.n as u32,
+    })
 }

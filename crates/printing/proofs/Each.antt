@@ -1,44 +1,37 @@
--- The texts of a list of items, from a place on: the first and the rest; and what a loop over the items has put. Assumes nothing.
-use mathlib.Core.Path.{◌≡◌, refl, ap, ◌∙◌}
-use mathlib.Core.List.{List, [], ◌∷◌, ◌++◌, append_assoc}
+-- What a loop over a list of items has appended: one item more, and all of them. Assumes nothing.
+use mathlib.Core.Path.{◌≡◌, refl, sym, ap, ◌∙◌}
+use mathlib.Core.List.{List, [], ◌∷◌, ◌++◌, append_assoc, append-nil}
 use Prim.Native.Nat.{ℕ, ◌+◌, ◌*◌, ◌≤◌, ◌<◌}
 use native.Mathlib.Omega.{arith}
-use lib.ListN.{length, get_or, drop, drop_of_length-le}
-use Rattle.lines.specs.Placed.{text, Put, Halfway}
-use Rattle.lines.proofs.Placed.{begun, recast, further, ended}
-use Rattle.lines.proofs.Texts.{drop_first, text-one}
+use lib.ListN.{length, get_or, take, length-append}
+use Rattle.std.proofs.lemmas.List.{take_more, take_all}
 use Rattle.printing.specs.Printed.{each}
 
--- the items from a place on
-each_more : {A : Type 0} (z : A) (f : A → List ℕ) (xs : List A) (i : ℕ) (t : List ℕ) → i < length xs → f (get_or xs i z) ≡ t → text (each f (drop i xs) ∷ []) ≡ text (t ∷ each f (drop (i + 1) xs) ∷ [])
-unfolding text each
-each_more z f xs i t h e =
-    ap (λ l. each f l ++ []) (drop_first z xs i h) ∙ append_assoc (f (get_or xs i z)) (each f (drop (i + 1) xs)) []
-    ∙ ap (λ (l : List ℕ). l ++ (each f (drop (i + 1) xs) ++ [])) e
+-- EACH APPENDED: the texts of the first k items are appended, each of at most so many bytes
+pub record EachAppended {A : Type 0} (f : A → List ℕ) (xs : List A) (most k : ℕ) (start now : List ℕ) : Type 0 where
+  pub appended : now ≡ start ++ each f (take k xs)
+  pub short : length now ≤ length start + most * k
 
-each_end : {A : Type 0} (f : A → List ℕ) (xs : List A) (i : ℕ) → length xs ≤ i → text (each f (drop i xs) ∷ []) ≡ text []
-unfolding text each
-each_end f xs i h = ap (λ l. each f l ++ []) (drop_of_length-le xs h)
+module _ {A : Type 0} (f : A → List ℕ) where
+  each-append : (xs ys : List A) → each f (xs ++ ys) ≡ each f xs ++ each f ys
+  unfolding each
+  each-append [] ys = refl
+  each-append (x ∷ xs) ys = ap (λ (l : List ℕ). f x ++ l) (each-append xs ys) ∙ sym (append_assoc (f x) (each f xs) (each f ys))
 
--- EACH PUT: the texts of the first k items are put, each of at most so many bytes
-pub record EachPut {A : Type 0} (f : A → List ℕ) (xs : List A) (most at : ℕ) (before now : List ℕ) (place k : ℕ) : Type 0 where
-  pub some : k ≤ length xs
-  pub same_size : length now ≡ length before
-  pub close : place ≤ at + most * k
-  pub halfway : Halfway (each f xs) (each f (drop k xs) ∷ []) at before now place
+  each_more : (xs : List A) (k : ℕ) (z : A) → k < length xs → each f (take (k + 1) xs) ≡ each f (take k xs) ++ f (get_or xs k z)
+  unfolding each
+  each_more xs k z h = ap (each f) (take_more xs k z h) ∙ each-append (take k xs) (get_or xs k z ∷ []) ∙ ap (λ (l : List ℕ). each f (take k xs) ++ l) (append-nil (f (get_or xs k z)))
 
-module _ {A : Type 0} {f : A → List ℕ} {xs : List A} {most at : ℕ} {d : List ℕ} where
-  pub each_none : EachPut f xs most at d d at 0
-  each_none = record { some = omega arith; same_size = refl; close = omega arith; halfway = begun (text-one (each f xs)) }
+module _ {A : Type 0} {f : A → List ℕ} {xs : List A} {most : ℕ} {start : List ℕ} where
+  pub each_none : EachAppended f xs most 0 start start
+  unfolding each
+  each_none = record { appended = sym (append-nil start); short = omega arith }
 
-  pub each_next : (z : A) {now after t : List ℕ} {p q k : ℕ} → at ≤ length d → k < length xs → f (get_or xs k z) ≡ t → EachPut f xs most at d now p k → Put t p now after q → q ≤ p + most → length after ≡ length now → EachPut f xs most at d after q (k + 1)
-  each_next z {t = t} {k = k} low less is g s near same =
-      record {
-        some = omega arith;
-        same_size = same ∙ g.same_size;
-        close = omega (arith, g.close);
-        halfway = further low (recast (each_more z f xs k t less is) g.halfway) s;
-      }
+  pub each_next : (z : A) {k : ℕ} {now after : List ℕ} → k < length xs → EachAppended f xs most k start now → after ≡ now ++ f (get_or xs k z) → length (f (get_or xs k z)) ≤ most → EachAppended f xs most (k + 1) start after
+  each_next z {k} {now} less g e small = record {
+    appended = e ∙ ap (λ (l : List ℕ). l ++ f (get_or xs k z)) g.appended ∙ append_assoc start (each f (take k xs)) (f (get_or xs k z)) ∙ ap (λ (l : List ℕ). start ++ l) (sym (each_more f xs k z less));
+    short = omega (arith, g.short, ap length e, length-append now (f (get_or xs k z)));
+  }
 
-  pub each_all : {now : List ℕ} {p k : ℕ} → length xs ≤ k → EachPut f xs most at d now p k → Put (each f xs) at d now p
-  each_all {k = k} all g = ended (recast (each_end f xs k all) g.halfway)
+  pub each_all : {k : ℕ} {now : List ℕ} → length xs ≤ k → EachAppended f xs most k start now → now ≡ start ++ each f xs
+  each_all {k} all g = g.appended ∙ ap (λ (l : List A). start ++ each f l) (take_all k xs all)

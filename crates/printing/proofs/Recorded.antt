@@ -1,5 +1,5 @@
 -- The rows of the hall of a record stand in its columns; the cuts of two lists stand side by side; the hall of the record of a hall is the hall. Assumes nothing.
-use mathlib.Core.Path.{◌≡◌, refl, ap, ◌∙◌}
+use mathlib.Core.Path.{◌≡◌, refl, ap, ap₂, ◌∙◌}
 use mathlib.Core.Bool.{Bool, true, false}
 use mathlib.Core.List.{List, [], ◌∷◌}
 use Prim.Native.Nat.{ℕ, zero, suc, ◌+◌, ◌-◌, ◌≤◌, ◌<◌}
@@ -9,8 +9,8 @@ use lib.Seq.{ext_get_or}
 use Rattle.hall.specs.Hall.{Row, Hall, row_of, hall, row, count, is_choice}
 use Rattle.hall.specs.Plan.{Cut, cut}
 use Rattle.dicuts.proofs.Choices.{choice_ascends}
-use Rattle.hallfile.specs.declared.HallRecord.{HallRecord}
-use Rattle.hallfile.specs.Record.{record_of}
+use Rattle.hallfile.specs.declared.record.HallRecord.{HallRecord}
+use Rattle.hallfile.specs.Record.{RecordOf}
 use Rattle.hallfile.proofs.Columns.{column-at}
 use Rattle.choice.proofs.Ascent.{ascends_at}
 use Rattle.lines.specs.Lines.{four_line}
@@ -32,29 +32,29 @@ module _ (t h p : List ℕ) (x : List Bool) where
 module _ (r : HallRecord) where
   -- the row at a place of the record
   abbrev place_row : ℕ → Row
-  place_row = row_in_columns r.tails r.heads r.prices r.fixed
+  place_row = row_in_columns r.lanes.tails r.lanes.heads r.prices r.fixed
 
-  pub hall-count : count (hall_of r) ≡ r.count
+  pub hall-count : count (hall_of r) ≡ r.lanes.count
   unfolding hall_of hall count
-  hall-count = rows_length r.tails r.heads r.prices r.fixed 0 r.count
+  hall-count = rows_length r.lanes.tails r.lanes.heads r.prices r.fixed 0 r.lanes.count
 
-  pub hall_junctions : (hall_of r).n ≡ r.n
+  pub hall_junctions : (hall_of r).n ≡ r.lanes.n
   unfolding hall_of hall
   hall_junctions = refl
 
-  hall_place : (k : ℕ) → k < r.count → get_or (hall_of r).rows k (row_of 0 0 0) ≡ place_row k
+  hall_place : (k : ℕ) → k < r.lanes.count → get_or (hall_of r).rows k (row_of 0 0 0) ≡ place_row k
   unfolding hall_of hall
   hall_place k less =
       let e : 0 + k ≡ k = omega arith in
-      rows_at r.tails r.heads r.prices r.fixed (row_of 0 0 0) 0 r.count k less ∙ ap place_row e
+      rows_at r.lanes.tails r.lanes.heads r.prices r.fixed (row_of 0 0 0) 0 r.lanes.count k less ∙ ap place_row e
 
   -- the line of a row, from its columns
-  pub row_line_is : (i : ℕ) → 1 ≤ i → i ≤ r.count → row_line (hall_of r) i ≡ four_line i (get_or r.tails (i - 1) 0) (get_or r.heads (i - 1) 0) (get_or r.prices (i - 1) 0)
+  pub row_line_is : (i : ℕ) → 1 ≤ i → i ≤ r.lanes.count → row_line (hall_of r) i ≡ four_line i (get_or r.lanes.tails (i - 1) 0) (get_or r.lanes.heads (i - 1) 0) (get_or r.prices (i - 1) 0)
   unfolding row_line row row_in_columns
   row_line_is i low high = ap (λ (x : Row). four_line i x.from x.to x.price) (hall_place (i - 1) (omega arith))
 
   -- a choice of the hall has numbers of the record's rows
-  pub choice_at : (ns : List ℕ) (k : ℕ) → is_choice (hall_of r) ns ≡ true → k < length ns → (1 ≤ get_or ns k 0) × (get_or ns k 0 ≤ r.count)
+  pub choice_at : (ns : List ℕ) (k : ℕ) → is_choice (hall_of r) ns ≡ true → k < length ns → (1 ≤ get_or ns k 0) × (get_or ns k 0 ≤ r.lanes.count)
   choice_at ns k e l = let w = ascends_at 1 (count (hall_of r)) ns k (choice_ascends (hall_of r) ns e) l in (w.0, omega (arith, w.1, hall-count))
 
 pub cuts-length : (ss ws : List ℕ) → length ss ≡ length ws → length (paired ss ws) ≡ length ss
@@ -70,32 +70,33 @@ cuts-at (s ∷ ss) [] d i e l = absurd (omega arith)
 cuts-at (s ∷ ss) (w ∷ ws) d zero e l = refl
 cuts-at (s ∷ ss) (w ∷ ws) d (suc i) e l = cuts-at ss ws d i (omega arith) (omega arith)
 
--- the hall of the record of a hall is the hall
-module _ (h : Hall) (few : count h ≤ 256) where
-  record_count : (record_of h).count ≡ count h
-  unfolding record_of
-  record_count = refl
-
-  record_row : (k : ℕ) → k < count h → place_row (record_of h) k ≡ get_or h.rows k (row_of 0 0 0)
-  unfolding row_in_columns record_of count
+-- the hall of a record of a hall is the hall
+module _ (h : Hall) (r : HallRecord) (is : RecordOf h r) where
+  record_row : (k : ℕ) → k < r.lanes.count → place_row r k ≡ get_or h.rows k (row_of 0 0 0)
+  unfolding row_in_columns count
   record_row k l =
       let none = row_of 0 0 0 in
-      let small : k < 256 = omega arith in
+      let small : k < 256 = omega (arith, r.lanes.ends.few) in
+      let less : k < length h.rows = omega (arith, is.rows) in
       rw (
-        column-at 0 (λ r. r.from) h.rows k none l small,
-        column-at 0 (λ r. r.to) h.rows k none l small,
-        column-at 0 (λ r. r.price) h.rows k none l small,
-        column-at false (λ r. r.fixed) h.rows k none l small,
+        is.tails,
+        is.heads,
+        is.prices,
+        is.marks,
+        column-at 0 (λ r. r.from) h.rows k none less small,
+        column-at 0 (λ r. r.to) h.rows k none less small,
+        column-at 0 (λ r. r.price) h.rows k none less small,
+        column-at false (λ r. r.fixed) h.rows k none less small,
       ) refl
 
-  record_rows : (hall_of (record_of h)).rows ≡ h.rows
+  record_rows : (hall_of r).rows ≡ h.rows
   unfolding count
   record_rows =
-      ext_get_or (row_of 0 0 0) (hall_of (record_of h)).rows h.rows (hall-count (record_of h) ∙ record_count)
+      ext_get_or (row_of 0 0 0) (hall_of r).rows h.rows (hall-count r ∙ is.rows)
       (λ k l.
-      let less : k < count h = omega (arith, hall-count (record_of h), record_count) in
-      hall_place (record_of h) k (omega (arith, record_count)) ∙ record_row k less)
+      let less : k < r.lanes.count = omega (arith, hall-count r) in
+      hall_place r k less ∙ record_row k less)
 
-  pub hall_of_record : hall_of (record_of h) ≡ h
-  unfolding hall_of hall record_of
-  hall_of_record = ap (hall h.n) record_rows
+  pub hall_of_record : hall_of r ≡ h
+  unfolding hall_of hall
+  hall_of_record = ap₂ hall is.junctions record_rows

@@ -7,8 +7,7 @@ use Rattle.hall.specs.Hall.{hall, row_of, row, count}
 use Rattle.hall.specs.File.{value, field, blocks, offset, long_of, row_in, rows_at, all_rows, hall_in}
 use Rattle.hall.specs.Plan.{Cut, total, level_sum, difference, levels_from, levels}
 use Rattle.junctions.specs.Sets.{holds}
-use Rattle.lines.specs.Placed.{text}
-use Rattle.lines.specs.Lines.{digits, decimal, level_text, item, number_line, pair_line, four_line, set_text, cut_line, level_item}
+use Rattle.lines.specs.Lines.{text, digits, decimal, level_text, item, number_line, pair_line, four_line, set_text, cut_line, level_item}
 use Rattle.printing.specs.Printed.{hall_word, open_word, total_word, cuts_word, levels_word, refused_word, each, row_line, levels_line, choice_lines, cut_lines, printed_plan, printed_refusal}
 
 -- the 36-byte file of document 01

@@ -3,8 +3,7 @@ use Rattle.std.specs.Prelude.{List, [], ◌∷◌, ◌++◌, ℕ, length, ℤ}
 use Rattle.hall.specs.Hall.{Hall, row, count}
 use Rattle.hall.specs.File.{Refusal}
 use Rattle.hall.specs.Plan.{Cut}
-use Rattle.lines.specs.Placed.{text}
-use Rattle.lines.specs.Lines.{space, newline, one, number_line, pair_line, four_line, cut_line, level_item}
+use Rattle.lines.specs.Lines.{text, space, newline, one, number_line, pair_line, four_line, cut_line, level_item}
 
 -- `HALL `, `OPEN `, `TOTAL `, `CUTS `, `LEVELS` and `REFUSED `
 unfoldable pub hall_word : List ℕ

@@ -2,7 +2,7 @@
 use Rattle.std.specs.Prelude.{◌≡◌, Bool, true, false, List, [], ◌∷◌, ℕ, zero, suc, ◌≤◌, ℤ, length, get_or}
 use Rattle.hall.specs.Hall.{Row, Hall, hall, is_choice}
 use Rattle.hall.specs.Plan.{Cut, cut}
-use Rattle.hallfile.specs.declared.HallRecord.{HallRecord}
+use Rattle.hallfile.specs.declared.record.HallRecord.{HallRecord}
 
 -- the row at place i of the columns
 unfoldable pub row_in_columns : (tails heads prices : List ℕ) → (fixed : List Bool) → (i : ℕ) → Row
@@ -15,7 +15,7 @@ rows_from t h p x i (suc k) = row_in_columns t h p x i ∷ rows_from t h p x (su
 
 -- THE HALL OF A RECORD
 unfoldable pub hall_of : HallRecord → Hall
-hall_of r = hall r.n (rows_from r.tails r.heads r.prices r.fixed 0 r.count)
+hall_of r = hall r.lanes.n (rows_from r.lanes.tails r.lanes.heads r.prices r.fixed 0 r.lanes.count)
 
 -- THE CUTS of a list of shores and a list of weights
 unfoldable pub paired : (shores weights : List ℕ) → List Cut
@@ -25,8 +25,6 @@ paired (s ∷ ss) (w ∷ ws) = cut s w ∷ paired ss ws
 
 -- PRINTABLE: a hall, a choice of its rows, and as many shores as weights, within the limits
 pub record Printable (r : HallRecord) (rows shores weights : List ℕ) (levels : List ℤ) : Type 0 where
-  pub junctions : r.n ≤ 64
-  pub few : r.count ≤ 256
   pub choice : is_choice (hall_of r) rows ≡ true
   pub cuts : length shores ≤ 125
   pub paired : length shores ≡ length weights

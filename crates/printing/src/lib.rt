@@ -1,143 +1,106 @@
-// The printed list of a plan, or the line of a refusal, at the front of a lent buffer.
+// The printed list of a plan, or the line of a refusal, as a text: specs/Printed.antt says its bytes.
 // It stands on the lines of `lines`, the record of `hallfile` and the kinds of `refusals`.
-// A part of the list is `Put` at its place, the whole is `InFront`: specs/Printed.antt says its bytes.
 #![tactic(auto)]
 
-ghost use Rattle.std.specs.Prelude.{◌≡◌, true, ◌+◌, ◌*◌, ◌≤◌, length};
+ghost use Rattle.std.specs.Prelude.{◌≡◌, true, ◌++◌, ◌+◌, ◌*◌, ◌≤◌, length};
 ghost use Rattle.hall.specs.Hall.{is_choice};
 ghost use Rattle.hall.specs.File.{refusal};
-ghost use Rattle.lines.specs.Placed.{Put, InFront};
 ghost use Rattle.lines.specs.Lines.{cut_line, level_item};
-ghost use Rattle.printing.specs.Printed.{each, row_line, choice_lines, cut_lines, levels_line, printed_plan, printed_refusal};
+ghost use Rattle.printing.specs.Printed.{row_line, choice_lines, cut_lines, levels_line, printed_plan, printed_refusal};
 ghost use Rattle.printing.specs.Recorded.{hall_of, paired, Printable};
 ghost use Rattle.refusals.specs.Kinds.{refusal_of};
 
 use hallfile::HallRecord;
+use lines::Text;
 use refusals::Kind;
 
-// The lines of the chosen rows.
-fn put_rows(out: &mut [u8], at: usize, hall: HallRecord, rows: &[u32]) -> usize
-    requires count_bound { (hall.count ≤ 256) × (is_choice (hall_of hall) rows.now ≡ true) }
-    requires rows_in_bounds { at + 30 * length rows.now ≤ length out.old }
-    ensures put { Put (each (row_line (hall_of hall)) rows.now) at out.old out.new result }
-    ensures upper_bound { result ≤ at + 30 * length rows.now }
-{
-    let mut end = at;
-    let mut k: usize = 0;
-    while k < rows.len() {
-        let i = rows[k];
-        let place = (i as usize) - 1;
-        end = lines::put_row_line(
-            out,
-            end,
-            i,
-            hall.tails[place],
-            hall.heads[place],
-            hall.prices[place],
-        );
-        k += 1;
-    }
-    end
-}
-
-// The lines of the cuts.
-fn put_cuts(out: &mut [u8], at: usize, n: usize, shores: &[u64], weights: &[u32]) -> usize
-    requires n_bound { (n ≤ 64) × (length shores.now ≡ length weights.now) }
-    requires shores_in_bounds { at + 203 * length shores.now ≤ length out.old }
-    ensures put { Put (each (cut_line n) (paired shores.now weights.now)) at out.old out.new result }
-    ensures upper_bound { result ≤ at + 203 * length shores.now }
-{
-    let mut end = at;
-    let mut k: usize = 0;
-    while k < shores.len() {
-        end = lines::put_cut_line(out, end, n, shores[k], weights[k]);
-        k += 1;
-    }
-    end
-}
-
-// The levels, a space before each.
-fn put_levels(out: &mut [u8], at: usize, levels: &[i32]) -> usize
-    requires { at + 12 * length levels.now ≤ length out.old }
-    ensures put { Put (each level_item levels.now) at out.old out.new result }
-    ensures upper_bound { result ≤ at + 12 * length levels.now }
-{
-    let mut end = at;
-    let mut k: usize = 0;
-    while k < levels.len() {
-        end = lines::put_level(out, end, levels[k]);
-        k += 1;
-    }
-    end
-}
+/// A list or a line of at most 65,536 bytes: the longest list has some 34,000.
+pub type List = Text<65_536>;
 
 // The lines of a choice: how many rows are opened, then each row's line.
-fn put_choice(out: &mut [u8], at: usize, hall: HallRecord, rows: &[u32]) -> usize
-    requires count_bound { (hall.count ≤ 256) × (is_choice (hall_of hall) rows.now ≡ true) }
-    requires rows_in_bounds { at + 26 + 30 * length rows.now ≤ length out.old }
-    ensures put { Put (choice_lines (hall_of hall) rows.now) at out.old out.new result }
-    ensures upper_bound { result ≤ at + 26 + 30 * length rows.now }
+#[tactic(auto, unfolding(lines::specs::Lines::text, crate::specs::Printed::choice_lines, crate::specs::Printed::open_word))]
+fn push_choice(text: &mut List, hall: &HallRecord, rows: &[u32])
+    requires choice { is_choice (hall_of hall.now) rows.now ≡ true }
+    requires room { length text.old + 26 + 30 * length rows.now ≤ 65536 }
+    ensures appended { text.new ≡ text.old ++ choice_lines (hall_of hall.now) rows.now }
+    ensures short { length text.new ≤ length text.old + 26 + 30 * length rows.now }
 {
-    let first = lines::put_number_line(out, at, b"OPEN ", rows.len());
-    put_rows(out, first, hall, rows)
+    text.push_number_line(b"OPEN ", rows.len() as u64);
+    for row in rows {
+        let place = *row as usize - 1;
+        text.push_row_line(
+            *row,
+            hall.lanes.tails[place],
+            hall.lanes.heads[place],
+            hall.prices[place],
+        );
+    }
 }
 
 // The lines of the cuts: how many there are, then each cut's line.
-fn put_cut_list(out: &mut [u8], at: usize, n: usize, shores: &[u64], weights: &[u32]) -> usize
-    requires n_bound { (n ≤ 64) × (length shores.now ≡ length weights.now) }
-    requires shores_in_bounds { at + 26 + 203 * length shores.now ≤ length out.old }
-    ensures put { Put (cut_lines n (paired shores.now weights.now)) at out.old out.new result }
-    ensures upper_bound { result ≤ at + 26 + 203 * length shores.now }
+#[tactic(auto, unfolding(lines::specs::Lines::text, crate::specs::Printed::cut_lines, crate::specs::Printed::cuts_word))]
+fn push_cuts(text: &mut List, n: usize, shores: &[u64], weights: &[u32])
+    requires n_bound { n ≤ 64 }
+    requires pairs { length shores.now ≡ length weights.now }
+    requires room { length text.old + 26 + 203 * length shores.now ≤ 65536 }
+    ensures appended { text.new ≡ text.old ++ cut_lines n (paired shores.now weights.now) }
+    ensures short { length text.new ≤ length text.old + 26 + 203 * length shores.now }
 {
-    let first = lines::put_number_line(out, at, b"CUTS ", shores.len());
-    put_cuts(out, first, n, shores, weights)
+    text.push_number_line(b"CUTS ", shores.len() as u64);
+    for (shore, weight) in shores.iter().zip(weights) {
+        text.push_cut_line(n, *shore, *weight);
+    }
 }
 
-fn put_levels_line(out: &mut [u8], at: usize, levels: &[i32]) -> usize
-    requires { at + 7 + 12 * length levels.now ≤ length out.old }
-    ensures { Put (levels_line levels.now) at out.old out.new result }
+// The line of the levels, a space before each.
+#[tactic(auto, unfolding(lines::specs::Lines::text, crate::specs::Printed::levels_line, crate::specs::Printed::levels_word))]
+fn push_levels(text: &mut List, levels: &[i32])
+    requires { length text.old + 7 + 12 * length levels.now ≤ 65536 }
+    ensures { text.new ≡ text.old ++ levels_line levels.now }
 {
-    let first = lines::put_text(out, at, b"LEVELS");
-    let end = put_levels(out, first, levels);
-    lines::put_byte(out, end, b'\n')
+    text.push_bytes(b"LEVELS");
+    for level in levels {
+        text.push_level(*level);
+    }
+    text.push(b'\n');
 }
 
-// The printed list of a plan, at the front of the buffer; gives its length.
+// The printed list of a plan.
+#[tactic(auto, unfolding(lines::specs::Lines::text, crate::specs::Printed::printed_plan, crate::specs::Printed::hall_word, crate::specs::Printed::total_word))]
 pub fn print_plan(
-    out: &mut [u8],
-    hall: HallRecord,
+    hall: &HallRecord,
     rows: &[u32],
     total: u32,
     shores: &[u64],
     weights: &[u32],
     levels: &[i32],
-) -> usize
-    requires printable { Printable hall rows.now shores.now weights.now levels.now }
-    requires in_bounds { 65536 ≤ length out.old }
-    ensures { InFront (printed_plan (hall_of hall) rows.now total (paired shores.now weights.now) levels.now) out.old out.new result }
+) -> List
+    requires { Printable hall.now rows.now shores.now weights.now levels.now }
+    ensures { result ≡ printed_plan (hall_of hall.now) rows.now total (paired shores.now weights.now) levels.now }
 {
-    let n = hall.n;
-    let opened = lines::put_pair_line(out, 0, b"HALL ", n, hall.count);
-    let summed = put_choice(out, opened, hall, rows);
-    let cut = lines::put_number_line(out, summed, b"TOTAL ", total as usize);
-    let leveled = put_cut_list(out, cut, n, shores, weights);
-    put_levels_line(out, leveled, levels)
+    let n = hall.lanes.n;
+    let mut text = Text::new();
+    text.push_pair_line(b"HALL ", n as u64, hall.lanes.count as u64);
+    push_choice(&mut text, hall, rows);
+    text.push_number_line(b"TOTAL ", u64::from(total));
+    push_cuts(&mut text, n, shores, weights);
+    push_levels(&mut text, levels);
+    text
 }
 
-// The printed refusal, at the front of the buffer; gives its length.
-pub fn print_refusal(out: &mut [u8], number: usize, row: usize) -> usize
-    requires { 50 ≤ length out.old }
-    ensures { InFront (printed_refusal (refusal number row)) out.old out.new result }
+// The printed refusal, by its number and row.
+#[tactic(auto, unfolding(lines::specs::Lines::text, crate::specs::Printed::printed_refusal, crate::specs::Printed::refused_word, hall::specs::File::refusal))]
+pub fn print_refusal(number: u64, row: u64) -> List
+    ensures { result ≡ printed_refusal (refusal number row) }
 {
-    lines::put_pair_line(out, 0, b"REFUSED ", number, row)
+    let mut text = Text::new();
+    text.push_pair_line(b"REFUSED ", number, row);
+    text
 }
 
-// The printed refusal of a kind, at the front of the buffer; gives its length.
-pub fn print_kind(out: &mut [u8], kind: Kind) -> usize
-    requires { 50 ≤ length out.old }
-    ensures { InFront (printed_refusal (refusal_of kind)) out.old out.new result }
+// The printed refusal of a kind.
+pub fn print_kind(kind: Kind) -> List
+    ensures { result ≡ printed_refusal (refusal_of kind) }
 {
-    let number = refusals::number_of(kind);
-    let row = refusals::row_of(kind);
-    print_refusal(out, number as usize, row as usize)
+    print_refusal(u64::from(kind.number()), u64::from(kind.row()))
 }

@@ -3,20 +3,18 @@ use mathlib.Core.Bool.{Bool, true, false, ◌&&◌, not}
 use mathlib.Core.List.{List, [], ◌∷◌}
 use mathlib.Core.Logic.{◌⊎◌, inl, inr, ⊎_elim}
 use mathlib.Core.Path.{◌≡◌, refl, sym, ap, subst, ◌∙◌}
-use Prim.Native.Nat.{ℕ, zero, suc, ◌+◌, ◌-◌, ◌*◌, ◌%◌, ◌^◌, ◌≤◌, ◌<◌}
+use Prim.Native.Nat.{ℕ, zero, suc, ◌-◌, ◌^◌, ◌≤◌, ◌<◌}
 use native.Mathlib.Omega.{arith}
-use lib.Bits.{bit_and, bit_xor}
 use lib.Dec.{eqb}
-use lib.ListN.{length, get_or, set}
-use lib.Seq.{get_or-set_same, get_or-set_other, set-set, set-get_or}
+use lib.ListN.{length, get_or, set, replicate, get_or-replicate}
+use lib.Seq.{get_or-set_same, get_or-set_other}
 use borrow.Author.Tests.{eqb-true, eqb-false}
 use Rattle.laws.specs.Lists.{at}
 use Rattle.laws.proofs.Booleans.{by_bool, clash, and_l, and_r, and_i, or_l, or_r, or_cases}
 use Rattle.laws.proofs.Finite.{any_found, any_intro}
 use Rattle.junctions.specs.Sets.{holds, Within}
 use Rattle.junctions.proofs.Bounds.{junction_le}
-use Rattle.junctions.proofs.Bits.{one_shl}
-use Rattle.junctions.proofs.Sets.{less_holds, gather_lt, gather-holds}
+use Rattle.junctions.proofs.Sets.{gather_lt, gather-holds}
 use Rattle.junctions.proofs.Single.{one_lt, one_self}
 use Rattle.digraph.specs.Reach.{Closed}
 use Rattle.digraph.specs.Closure.{closure}
@@ -27,16 +25,13 @@ use Rattle.dicuts.specs.Shores.{Ranged, once, Joining}
 use Rattle.joining.proofs.Joining.{joining_mono}
 use Rattle.neighbours.specs.Removal.{without, Spared}
 use Rattle.neighbours.proofs.Removal.{drop-joins}
-use Rattle.columns.specs.Columns.{flagged, Ends, Columns, Arcs}
-use Rattle.columns.proofs.Places.{place_tail, place_head}
+use Rattle.columns.specs.Columns.{flagged, Ends, Arcs}
+use Rattle.columns.specs.Lanes.{LanesOf}
+use Rattle.columns.specs.declared.Lanes.{Lanes}
+use Rattle.columns.proofs.Places.{lane_tail, lane_head}
 use Rattle.adjacency.proofs.Arcs.{arcs_ext}
-use Rattle.pruning.specs.Backed.{Backed, ArcsAmong}
+use Rattle.pruning.specs.Backed.{Backed, ArcsAmong, Forward}
 use Rattle.pruning.specs.Start.{Among}
-
--- the ends of a row are junctions 1 to 64
-pub ends_fit : (n m : ℕ) (ts hs : List ℕ) → Ends n m ts hs → (k : ℕ) → k < m → (1 ≤ get_or ts k 0) × (get_or ts k 0 ≤ 64) × (1 ≤ get_or hs k 0) × (get_or hs k 0 ≤ 64)
-ends_fit n m ts hs ends k l =
-    (ends.tail_low k l, omega (arith, ends.tail_high k l, ends.size), ends.head_low k l, omega (arith, ends.head_high k l, ends.size))
 
 set_false : (fs : List Bool) (k : ℕ) → get_or (set fs k false) k false ≡ false
 set_false [] k = refl
@@ -49,10 +44,6 @@ among_without fs gs k inside i e =
     by_bool (eqb i k)
     (λ q. let here : i ≡ k = eqb-true i k q in clash e (rw here (set_false fs k)))
     (λ q. inside i (sym (get_or-set_other fs k i false false (eqb-false i k q)) ∙ e))
-
--- a flag put back
-pub among_again : (fs gs : List Bool) (k : ℕ) → Among fs gs → Among (set (set fs k false) k (get_or fs k false)) gs
-among_again fs gs k inside = rw (set-set fs k false (get_or fs k false), set-get_or fs k false) inside
 
 -- more rows make more arcs
 arc_mono : (h : Hall) (E F : ℕ → Bool) → ((i : ℕ) → 1 ≤ i → i ≤ count h → E i ≡ true → F i ≡ true) → (x y : ℕ) → arc h E x y ≡ true → arc h F x y ≡ true
@@ -81,7 +72,7 @@ module _ (h : Hall) (E : ℕ → Bool) (x y : ℕ) (l : 1 ≤ y) where
 
 -- the flags with one taken out are the rows without it
 module _ (fs : List Bool) (k : ℕ) where
-  pub taken_out : (i : ℕ) → 1 ≤ i → flagged (set fs k false) i ≡ without (flagged fs) (suc k) i
+  taken_out : (i : ℕ) → 1 ≤ i → flagged (set fs k false) i ≡ without (flagged fs) (suc k) i
   unfolding without
   taken_out i l =
       by_bool (eqb i (suc k))
@@ -100,7 +91,7 @@ module _ (fs : List Bool) (k : ℕ) where
       same true = refl
       same false = refl
 
-  module _ (h : Hall) (rg : Ranged h) (n m : ℕ) (ts hs : List ℕ) (few : n ≤ 64) (cols : Columns h n m ts hs) (less : k < m) where
+  module _ (h : Hall) (rg : Ranged h) (ls : Lanes) (lanes : LanesOf h ls) (less : k < ls.count) where
     abbrev from : ℕ
     from = (row h (suc k)).from
 
@@ -114,7 +105,7 @@ module _ (fs : List Bool) (k : ℕ) where
     G = flagged (set fs k false)
 
     k_high : suc k ≤ count h
-    k_high = omega (arith, cols.rows)
+    k_high = omega (arith, lanes.rows)
 
     -- an arc is there without row k, or it is the row's own
     arc-without : (x y : ℕ) → arc h F x y ≡ true → (arc h G x y ≡ true) ⊎ ((x ≡ to) × (y ≡ from))
@@ -146,21 +137,19 @@ module _ (fs : List Bool) (k : ℕ) where
         ((y : ℕ) → 1 ≤ y → holds r y ≡ true → (holds (get_or sets p 0) y ≡ true) × (y ≡ from → Backed h G (suc k))) → ArcsAmong h G (set sets p r)
     unfolding ArcsAmong Within Backed
     under_drop sets p r size small place under spare x l u y m e =
-        by_bool (eqb x to)
+        by_bool (eqb (x - 1) p)
         (λ q.
-        let is_to : x ≡ to = eqb-true x to q in
-        let here : x - 1 ≡ p = omega (arith, is_to, place) in
+        let here : x - 1 ≡ p = eqb-true (x - 1) p q in
         let new : holds r y ≡ true = ap (λ (z : ℕ). holds z y) (sym (ap (λ (z : ℕ). get_or (set sets p r) z 0) here ∙ get_or-set_same sets p r 0 (omega (arith, size)))) ∙ e in
         let old : holds (at sets x) y ≡ true = ap (λ (z : ℕ). holds (get_or sets z 0) y) here ∙ (spare y m new).0 in
         let known = out_arc h F x y m (under x l u y m old) in
         in_arcs h G x y m known.0
         (⊎_elim (λ a. a) (λ own. rw (own.0, own.1) ((spare y m new).1 own.1)) (arc-without x y known.1)))
         (λ q.
-        let off : x ≡ to → ⊥ = eqb-false x to q in
-        let there : x - 1 ≡ p → ⊥ = λ s. off (omega (arith, place)) in
+        let there : x - 1 ≡ p → ⊥ = eqb-false (x - 1) p q in
         let old : holds (at sets x) y ≡ true = ap (λ (z : ℕ). holds z y) (sym (get_or-set_other sets p (x - 1) r 0 there)) ∙ e in
         let known = out_arc h F x y m (under x l u y m old) in
-        in_arcs h G x y m known.0 (⊎_elim (λ a. a) (λ own. absurd (off own.0)) (arc-without x y known.1)))
+        in_arcs h G x y m known.0 (⊎_elim (λ a. a) (λ own. absurd (there (omega (arith, place)))) (arc-without x y known.1)))
 
     -- what the row's head reaches without the row
     spared : ℕ
@@ -202,47 +191,26 @@ module _ (fs : List Bool) (k : ℕ) where
         (by_bool (eqb i (suc k)) (λ q. clash t (ap F (eqb-true i (suc k) q) ∙ e)) (λ q. ap not q))) joining) in
         joining_mono h (without F (suc k)) G (λ i l u t. taken_out i l ∙ t) rest
 
-module _ (fs : List Bool) (k : ℕ) (h : Hall) (n m : ℕ) (ts hs : List ℕ) (cols : Columns h n m ts hs) (less : k < m) where
-  -- one of the rows makes the arc
-  pub backed_by :
-      (i : ℕ) → i < m →
-      (get_or fs i false && (eqb (get_or hs i 0) (get_or hs k 0) && eqb (get_or ts i 0) (get_or ts k 0))) ≡ true →
-      Backed h (flagged fs) (suc k)
-  unfolding Backed arc
-  backed_by i l e =
-      let place : suc i - 1 ≡ i = omega arith in
-      any_intro (count h) _ i (omega (arith, cols.rows))
-      (or_r (eqb (row h (suc i)).from (row h (suc k)).to && eqb (row h (suc i)).to (row h (suc k)).from) _
-      (rw (place, sym (place_tail h n m ts hs cols i l), sym (place_head h n m ts hs cols i l), sym (place_tail h n m ts hs cols k less), sym (place_head h n m ts hs cols k less)) e))
+-- one of the rows makes the arc
+pub backed_by :
+    (fs : List Bool) (k : ℕ) (h : Hall) (ls : Lanes) → LanesOf h ls → k < ls.count → (i : ℕ) → i < ls.count →
+    (get_or fs i false && (eqb (get_or ls.heads i 0) (get_or ls.heads k 0) && eqb (get_or ls.tails i 0) (get_or ls.tails k 0))) ≡ true →
+    Backed h (flagged fs) (suc k)
+unfolding Backed arc
+backed_by fs k h ls lanes less i l e =
+    let place : suc i - 1 ≡ i = omega arith in
+    any_intro (count h) _ i (omega (arith, lanes.rows))
+    (or_r (eqb (row h (suc i)).from (row h (suc k)).to && eqb (row h (suc i)).to (row h (suc k)).from) _
+    (rw (place, sym (lane_tail h ls lanes i l), sym (lane_head h ls lanes i l), sym (lane_tail h ls lanes k less), sym (lane_head h ls lanes k less)) e))
 
-  -- a row runs from the head to the tail: an arc that is there with no row flagged
-  pub backed_forward :
-      Ranged h → (flags : List Bool) → ((i : ℕ) → i < m → get_or flags i false ≡ false) → (sets : List ℕ) → Arcs h (flagged flags) sets →
-      (p q : ℕ) → suc p ≡ get_or hs k 0 → suc q ≡ get_or ts k 0 → holds (get_or sets p 0) (suc q) ≡ true → Backed h (flagged fs) (suc k)
-  unfolding Backed Arcs
-  backed_forward rg flags none sets are p q head tail has =
-      let place : suc p - 1 ≡ p = omega arith in
-      let to : suc p ≡ (row h (suc k)).to = head ∙ place_head h n m ts hs cols k less in
-      let from : suc q ≡ (row h (suc k)).from = tail ∙ place_tail h n m ts hs cols k less in
-      let high : suc p ≤ h.n = rw to (rg.to_high (suc k) (omega arith) (omega (arith, cols.rows))) in
-      let led : holds (arcs h (flagged flags) (suc p)) (suc q) ≡ true =
-      ap (λ (z : ℕ). holds z (suc q)) (sym (are (suc p) (omega arith) high)) ∙ ap (λ (z : ℕ). holds (get_or sets z 0) (suc q)) place ∙ has in
-      rw (sym to, sym from)
-      (arc_mono h (flagged flags) (flagged fs) (λ i l u e. clash e (none (i - 1) (omega (arith, cols.rows)))) (suc p) (suc q) (out_arc h (flagged flags) (suc p) (suc q) (omega arith) led).1)
-
--- a set without one junction
-pub cleared :
-    (found tail y : ℕ) → tail < 64 → 1 ≤ y → holds (bit_xor found (bit_and found ((1 * 2 ^ tail) % 2 ^ 64))) y ≡ true →
-    (holds found y ≡ true) × (y ≡ suc tail → ⊥)
-cleared found tail y small low e =
-    let place : suc tail - 1 ≡ tail = omega arith in
-    let own : holds (2 ^ tail) (suc tail) ≡ true = rw place at (one_self (suc tail) (omega arith)) in
-    let left : (holds found y && not (holds (2 ^ tail) y)) ≡ true = sym (less_holds found (2 ^ tail) y) ∙ rw (one_shl tail small) at e in (
-      and_l (holds found y) (not (holds (2 ^ tail) y)) left,
-      λ q.
-          clash (and_r (holds found y) (not (holds (2 ^ tail) y)) left)
-          (ap not (ap (holds (2 ^ tail)) q ∙ own)),
-    )
+-- arcs with no row flagged are there whatever rows are flagged
+pub forward_all : (ls : Lanes) → Ends ls.n ls.count ls.tails ls.heads → (sets : List ℕ) →
+    ((h : Hall) → LanesOf h ls → Arcs h (flagged (replicate 256 false)) sets) → Forward ls sets
+unfolding Arcs
+forward_all ls ends sets are h F lanes x y l u m e =
+    let none : ℕ → Bool = flagged (replicate 256 false) in
+    let led : holds (arcs h none x) y ≡ true = ap (λ (z : ℕ). holds z y) (sym (are h lanes x l u)) ∙ e in
+    arc_mono h none F (λ i p q t. clash t (get_or-replicate 256 (i - 1) false false (omega (arith, lanes.rows, ends.few)))) x y (out_arc h none x y m led).1
 
 -- rows that join, and sets under them
 abbrev pub Thinned : Hall → (fs : List Bool) → (sets : List ℕ) → Type 0
@@ -251,27 +219,3 @@ Thinned h fs sets = Joining h (once (flagged fs)) × ArcsAmong h (flagged fs) se
 pub thinned_start : (h : Hall) (fs : List Bool) (sets : List ℕ) → Joining h (once (flagged fs)) → Arcs h (flagged fs) sets → Thinned h fs sets
 unfolding Arcs ArcsAmong Within
 thinned_start h fs sets joins is = (joins, λ x l u. subst (λ (z : ℕ). Within (at sets x) z) (is x l u) (λ y m e. e))
-
--- one turn: row k, its ends at places p and q, is dropped, or gets its arc back
-module _ (fs : List Bool) (k : ℕ) (h : Hall) (rg : Ranged h) (n m : ℕ) (ts hs : List ℕ) (few : n ≤ 64) (cols : Columns h n m ts hs) (less : k < m)
-    (sets : List ℕ) (size : length sets ≡ 64) (p q r : ℕ) (low : p < 64) (head : suc p ≡ get_or hs k 0) (tail : suc q ≡ get_or ts k 0) (so_far : Thinned h fs sets) where
-  p_to : suc p ≡ (row h (suc k)).to
-  p_to = head ∙ place_head h n m ts hs cols k less
-
-  q_from : suc q ≡ (row h (suc k)).from
-  q_from = tail ∙ place_tail h n m ts hs cols k less
-
-  pub turn_dropped :
-      ((y : ℕ) → 1 ≤ y → holds r y ≡ true → (holds (get_or sets p 0) y ≡ true) × (y ≡ suc q → Backed h (flagged (set fs k false)) (suc k))) →
-      ((t : ℕ) → holds t (p + 1) ≡ true → Closed 64 (at (set sets p r)) t → holds t (q + 1) ≡ true) → Thinned h (set fs k false) (set sets p r)
-  turn_dropped spare leads =
-      let to_place : p + 1 ≡ (row h (suc k)).to = omega (arith, p_to) in
-      let from_place : q + 1 ≡ (row h (suc k)).from = omega (arith, q_from) in
-      let under = under_drop fs k h rg n m ts hs few cols less sets p r size low p_to so_far.1
-      (λ y l e. ((spare y l e).0, λ own. (spare y l e).1 (own ∙ sym q_from))) in (
-        dropped-joins fs k h rg n m ts hs few cols less (set sets p r) under (rw (to_place, from_place) at leads) so_far.0,
-        under,
-      )
-
-  pub turn_kept : Thinned h (set (set fs k false) k (get_or fs k false)) (set (set sets p r) p (get_or sets p 0))
-  turn_kept = rw (set-set fs k false (get_or fs k false), set-get_or fs k false, set-set sets p r (get_or sets p 0), set-get_or sets p 0) so_far

@@ -6,130 +6,99 @@ ghost use Rattle.std.specs.Prelude.{◌≡◌, true, ℕ, suc, ◌≤◌, ◌<�
 ghost use Rattle.laws.specs.Lists.{at};
 ghost use Rattle.junctions.specs.Sets.{holds};
 ghost use Rattle.digraph.specs.Reach.{Closed};
-ghost use Rattle.dearest.specs.Ranks.{Rankable};
 ghost use Rattle.hall.specs.Hall.{Hall};
 ghost use Rattle.dicuts.specs.Shores.{Ranged, once, Joining};
-ghost use Rattle.columns.specs.Columns.{flagged, Ends, Columns};
-ghost use Rattle.pruning.specs.Backed.{Backed};
+ghost use Rattle.columns.specs.Columns.{flagged};
+ghost use Rattle.columns.specs.Lanes.{LanesOf};
+ghost use Rattle.pruning.specs.Backed.{Backed, Forward};
 ghost use Rattle.pruning.specs.Start.{Among};
 
-use junctions::place;
+use columns::{Lane, Lanes};
+use junctions::has;
 
 // Whether the target is reached from the start.
 fn leads(arcs: &[u64; 64], start: usize, target: usize) -> bool
     requires { (1 ≤ start) × (start ≤ 64) × (1 ≤ target) × (target ≤ 64) }
     ensures { result ≡ true → (t : ℕ) → holds t start ≡ true → Closed 64 (at arcs.now) t → holds t target ≡ true }
 {
-    let goal: u64 = 1 << (target - 1);
-    let mut distances = [0u8; 64];
-    digraph::reach_until(arcs, start, 0, goal, &mut distances) & goal != 0
+    let goal = 1 << (target - 1);
+    digraph::reach_until(arcs, start, 0, goal).set & goal != 0
 }
 
 // Whether one of the rows runs from the tail of the row at place k to its head. All bytes, so that many rows are compared at once.
-fn backed<'a>(
-    m: usize,
-    tails: &'a [u8; 256],
-    heads: &'a [u8; 256],
-    rows: &'a [bool; 256],
-    k: usize,
-) -> bool
-    requires { (m ≤ 256) × (k < m) }
-    ensures { (h : Hall) (n : ℕ) → Columns h n m tails.now heads.now → result ≡ true → Backed h (flagged rows.now) (suc k) }
+fn backed(lanes: &Lanes, rows: &[bool; 256], k: usize) -> bool
+    requires { k < lanes.now.count }
+    ensures { (h : Hall) → LanesOf h lanes.now → result ≡ true → Backed h (flagged rows.now) (suc k) }
 {
-    let tail = tails[k];
-    let head = heads[k];
+    let tail = lanes.tails[k];
+    let head = lanes.heads[k];
     let mut found = false;
-    let mut i: usize = 0;
-    while i < m {
-        found = found | (rows[i] & ((heads[i] == head) & (tails[i] == tail)));
-        i += 1;
+    for i in 0..lanes.count {
+        found |= rows[i] & ((lanes.heads[i] == head) & (lanes.tails[i] == tail));
     }
     found
 }
 
-// The arcs of the head of the row at place k that are left where the rows are without it: `forward` holds the tail of every row from
-// there, and `twice` that of every arc that two rows make.
-fn spared_arcs<'a>(
-    m: usize,
-    tails: &'a [u8; 256],
-    heads: &'a [u8; 256],
-    rows: &'a [bool; 256],
-    k: usize,
-    tail: usize,
-    found: u64,
-    forward: u64,
-    twice: u64,
-) -> u64
-    requires { (m ≤ 256) × (k < m) × (tail < 64) }
-    ensures { (h : Hall) (n : ℕ) → Columns h n m tails.now heads.now →
-        (holds forward (suc tail) ≡ true → Backed h (flagged rows.now) (suc k)) →
-        (y : ℕ) → 1 ≤ y → holds result y ≡ true → (holds found y ≡ true) × (y ≡ suc tail → Backed h (flagged rows.now) (suc k)) }
+// The set without the junction at a place.
+fn without(set: u64, place: usize) -> u64
+    requires { place < 64 }
+    ensures { (y : ℕ) → 1 ≤ y → holds result y ≡ true → (holds set y ≡ true) × (y ≡ suc place → ⊥) }
 {
-    if (forward >> tail) % 2 == 1 {
-        return found;
-    }
-    if (twice >> tail) % 2 == 1 {
-        if backed(m, tails, heads, rows, k) {
-            return found;
-        }
-    }
-    found ^ (found & (1 << tail))
+    set & !(1 << place)
 }
 
-// The place that a rank ends in, or 0 where that is no row.
-fn place_of(rank: u64, m: usize) -> usize
-    requires { 1 ≤ m }
-    ensures { result < m }
-{
-    let place = (rank % 256) as usize;
-    if place < m { place } else { 0 }
+// What is known of arcs before any row is dropped: those of `forward` run from a row's tail to its head, and stay; only those of `twice`
+// are made by two rows.
+#[derive(Clone, Copy)]
+struct Known<'a> {
+    lanes: &'a Lanes,
+    forward: [u64; 64],
+    twice: [u64; 64],
+    ghost forward_are: { Forward lanes.now forward },
+}
+
+impl Known<'_> {
+    // Whether the arc from the head of the row at place k to its tail is there without that row: a row runs that way, or of the rows given
+    // another makes it.
+    fn stays(&self, rows: &[bool; 256], k: usize) -> bool
+        requires { k < self.now.lanes.now.count }
+        ensures { (h : Hall) → LanesOf h self.now.lanes.now → result ≡ true → Backed h (flagged rows.now) (suc k) }
+    {
+        let Lane { tail, head } = self.lanes.lane(k);
+        has(self.forward[head], tail) || has(self.twice[head], tail) && backed(self.lanes, rows, k)
+    }
 }
 
 // Of rows that join a hall some that still join it.
-pub fn start<'a>(
-    n: usize,
-    m: usize,
-    tails: &'a [u8; 256],
-    heads: &'a [u8; 256],
-    costs: &'a [u64; 256],
-    rows: [bool; 256],
-) -> [bool; 256]
-    requires { Ends n m tails.now heads.now × Rankable m costs.now }
-    ensures { Among result rows
-        × ((h : Hall) → Columns h n m tails.now heads.now → Ranged h → Joining h (once (flagged rows)) → Joining h (once (flagged result))) }
+pub fn start(lanes: &Lanes, costs: &[u64; 256], rows: [bool; 256]) -> [bool; 256]
+    ensures among { Among result rows }
+    ensures joining { (h : Hall) → LanesOf h lanes.now → Ranged h → Joining h (once (flagged rows)) → Joining h (once (flagged result)) }
 {
-    let order = dearest::dearest_first(m, costs);
-    let mut arcs = adjacency::of_rows(n, m, tails, heads, &rows);
-    let twice = tight::solid_arcs(n, m, tails, heads, &rows);
-    let none = [false; 256];
-    let forward = adjacency::of_rows(n, m, tails, heads, &none);
+    let order = dearest::dearest_first(lanes.count, costs);
+    let known = Known {
+        lanes,
+        forward: adjacency::of_rows(lanes, &[false; 256]),
+        twice: tight::solid_arcs(lanes, &rows),
+    };
+    let mut arcs = adjacency::of_rows(lanes, &rows);
     let mut left = rows;
-    let mut turn: usize = 0;
-    while turn < m {
-        let k = place_of(order[turn], m);
-        let head = place(heads[k]);
-        let tail = place(tails[k]);
+    for &place in &order[..lanes.count] {
+        let k = usize::from(place);
+        if !left[k] {
+            continue;
+        }
+        let Lane { tail, head } = lanes.lane(k);
         let found = arcs[head];
-        let kept = left[k];
         left[k] = false;
-        let rest = spared_arcs(
-            m,
-            tails,
-            heads,
-            &left,
-            k,
-            tail,
-            found,
-            forward[head],
-            twice[head],
-        );
-        arcs[head] = rest;
-        let dropped = leads(&arcs, head + 1, tail + 1);
-        if !(kept & dropped) {
-            left[k] = kept;
+        arcs[head] = if known.stays(&left, k) {
+            found
+        } else {
+            without(found, tail)
+        };
+        if !leads(&arcs, head + 1, tail + 1) {
+            left[k] = true;
             arcs[head] = found;
         }
-        turn += 1;
     }
     left
 }

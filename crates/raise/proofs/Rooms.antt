@@ -3,25 +3,24 @@ use mathlib.Core.Path.{◌≡◌, refl, sym, ap, ◌∙◌}
 use mathlib.Core.Bool.{Bool, true, false, ◌&&◌, not, cond}
 use mathlib.Core.List.{List, []}
 use mathlib.Core.Logic.{⊎_elim}
-use Prim.Native.Nat.{ℕ, suc, ◌+◌, ◌-◌, ◌^◌, ◌≤◌, ◌<◌, min}
+use Prim.Native.Nat.{ℕ, suc, ◌+◌, ◌-◌, ◌≤◌, ◌<◌, min}
 use native.Mathlib.Numerals.{add-one}
 use native.Mathlib.Omega.{arith}
-use lib.Bits.{bit_and, bit_xor}
-use lib.Count.{count_trailing_zeros}
 use lib.Dec.{eqb}
 use lib.ListN.{get_or}
-use borrow.Author.Tests.{eqb-true, eq-eqb, not-true}
+use borrow.Author.Tests.{eqb-true, not-true}
 use Rattle.laws.specs.Lists.{at}
+use Rattle.laws.proofs.Lists.{at-suc}
 use Rattle.laws.proofs.Booleans.{by_bool, clash, and_l, and_r, and_i}
-use Rattle.laws.proofs.Connectives.{and_false_l, and_false_r}
 use Rattle.laws.proofs.Finite.{last_or_below}
-use Rattle.junctions.specs.Sets.{holds, Within}
-use Rattle.junctions.proofs.Sets.{none_holds, less_holds}
+use Rattle.junctions.specs.Sets.{holds}
+use Rattle.junctions.proofs.Sets.{none_holds}
 use Rattle.hall.specs.Hall.{Hall, row}
 use Rattle.columns.specs.Columns.{flagged, Columns}
 use Rattle.potentials.specs.Potential.{gap}
 use Rattle.raise.specs.Rooms.{Most, RowsAllow, OverSet}
-use Rattle.junctions.proofs.Taking.{low_in, left_holds}
+use Rattle.junctions.specs.Taking.{Taken}
+use Rattle.junctions.proofs.Taking.{taken_in, taken_left}
 use Rattle.zerograph.proofs.Rows.{from_here, to_here, free_here, gap_here}
 
 -- one more bound
@@ -51,7 +50,7 @@ module _ (h : Hall) (n m : ℕ) (tails heads costs : List ℕ) (movable : List B
 
   pub rows_room_more :
       (k a b r s : ℕ) → k < m → suc a ≡ get_or tails k 0 → suc b ≡ get_or heads k 0 →
-      s ≡ cond (get_or movable k false && (not (holds z (suc a)) && holds z (suc b))) (min r (get_or potential a 0 + get_or costs k 0 - get_or potential b 0)) r →
+      s ≡ cond ((get_or movable k false && not (holds z (suc a))) && holds z (suc b)) (min r (get_or potential a 0 + get_or costs k 0 - get_or potential b 0)) r →
       Most (rows_room k) r → Most (rows_room (k + 1)) s
   unfolding RowsAllow
   rows_room_more k a b r s less tail_is head_is narrowed before =
@@ -63,8 +62,11 @@ module _ (h : Hall) (n m : ℕ) (tails heads costs : List ℕ) (movable : List B
       (λ e x t. omega (arith, row-gap, x.1 (suc k) (omega arith) (omega arith) (free t) (out t) (into t)))
       before (most_narrow r d counts))
     where
+      may : Bool
+      may = get_or movable k false && not (holds z (suc a))
+
       counts : Bool
-      counts = get_or movable k false && (not (holds z (suc a)) && holds z (suc b))
+      counts = (get_or movable k false && not (holds z (suc a))) && holds z (suc b)
 
       d : ℕ
       d = get_or potential a 0 + get_or costs k 0 - get_or potential b 0
@@ -82,16 +84,16 @@ module _ (h : Hall) (n m : ℕ) (tails heads costs : List ℕ) (movable : List B
       row-gap = gap_here h n m tails heads costs movable [] potential cols k a b less tail_is head_is
 
       free : counts ≡ true → flagged movable (suc k) ≡ true
-      free t = free_is ∙ and_l (get_or movable k false) (not (holds z (suc a)) && holds z (suc b)) t
+      free t = free_is ∙ and_l (get_or movable k false) (not (holds z (suc a))) (and_l may (holds z (suc b)) t)
 
       out : counts ≡ true → holds z (row h (suc k)).from ≡ false
       out t =
           ap (holds z) from_is
-          ∙ not-true (holds z (suc a)) (and_l (not (holds z (suc a))) (holds z (suc b)) (and_r (get_or movable k false) (not (holds z (suc a)) && holds z (suc b)) t))
+          ∙ not-true (holds z (suc a)) (and_r (get_or movable k false) (not (holds z (suc a))) (and_l may (holds z (suc b)) t))
 
       into : counts ≡ true → holds z (row h (suc k)).to ≡ true
       into t =
-          ap (holds z) to_is ∙ and_r (not (holds z (suc a))) (holds z (suc b)) (and_r (get_or movable k false) (not (holds z (suc a)) && holds z (suc b)) t)
+          ap (holds z) to_is ∙ and_r may (holds z (suc b)) t
 
       at_row :
           (e : ℕ) → (counts ≡ true → e ≤ d) → (i : ℕ) → i ≡ suc k → flagged movable i ≡ true → holds z (row h i).from ≡ false → holds z (row h i).to ≡ true →
@@ -99,52 +101,37 @@ module _ (h : Hall) (n m : ℕ) (tails heads costs : List ℕ) (movable : List B
       at_row e y i q t o v =
           let le : e ≤ d =
           y
-          (and_i (get_or movable k false) (not (holds z (suc a)) && holds z (suc b)) (sym free_is ∙ sym (ap (flagged movable) q) ∙ t)
-          (and_i (not (holds z (suc a))) (holds z (suc b)) (ap not (sym (ap (holds z) (ap (λ (j : ℕ). (row h j).from) q ∙ from_is)) ∙ o))
-          (sym (ap (holds z) (ap (λ (j : ℕ). (row h j).to) q ∙ to_is)) ∙ v))) in
+          (and_i may (holds z (suc b))
+          (and_i (get_or movable k false) (not (holds z (suc a))) (sym free_is ∙ sym (ap (flagged movable) q) ∙ t)
+          (ap not (sym (ap (holds z) (ap (λ (j : ℕ). (row h j).from) q ∙ from_is)) ∙ o)))
+          (sym (ap (holds z) (ap (λ (j : ℕ). (row h j).to) q ∙ to_is)) ∙ v)) in
           rw q (omega (arith, le, row-gap))
 
--- what holds of all junctions of the set that are not left
-abbrev pub taken_room : (Q : (v e : ℕ) → Type 0) → (set start left e : ℕ) → Type 0
-taken_room Q set start left e = (e ≤ start) × ((v : ℕ) → 1 ≤ v → holds set v ≡ true → holds left v ≡ false → Q v e)
+-- what all junctions of a set allow, up to a room: those that are left of it, once the room is narrowed by one that is taken
+module _ (Q : (v e : ℕ) → Type 0) where
+  abbrev pub members_room : (set room e : ℕ) → Type 0
+  members_room set room e = (e ≤ room) × ((v : ℕ) → 1 ≤ v → holds set v ≡ true → Q v e)
 
-module _ (Q : (v e : ℕ) → Type 0) (set start : ℕ) where
-  pub taken_room_none : Most (taken_room Q set start set) start
-  taken_room_none = record { fits = (omega arith, λ v l t f. clash t f); most = λ e a. a.0 }
-
-  -- one junction more
-  module _ (left low : ℕ) (some : 0 < left) (fits : left < 2 ^ 64) (lowest : low ≡ count_trailing_zeros 64 left) (inside : Within left set) where
-    pub taken_room_more :
-        ((v e f : ℕ) → e ≤ f → Q v f → Q v e) → (r s : ℕ) → Most (taken_room Q set start left) r → Most (λ e. (e ≤ r) × Q (suc low) e) s →
-        Most (taken_room Q set start (bit_and left (left - 1))) s
-    unfolding Within
-    taken_room_more down r s before more =
-        most_both (taken_room Q set start left) (Q (suc low)) (taken_room Q set start (bit_and left (left - 1))) r s
-        (λ e f le x. (omega (arith, x.0), λ v l t g. down v e f le (x.1 v l t g)))
-        (λ e x y. (
-          x.0,
-          λ v l t g.
-              by_bool (eqb v (suc low))
-              (λ q. rw (eqb-true v (suc low) q) y)
-              (λ q. x.1 v l t (by_bool (holds left v) (λ b. clash (left_holds left low some fits lowest v l ∙ rw (b, q) refl) g) (λ b. b))),
-        ))
-        (λ e x. (x.0, λ v l t g. x.1 v l t (left_holds left low some fits lowest v l ∙ and_false_l (holds left v) (not (eqb v (suc low))) g)))
-        (λ e x.
-        x.1 (suc low) (omega arith) (inside (suc low) (omega arith) (low_in left low some fits lowest (suc low) (eq-eqb (suc low) (suc low) refl)))
-        (left_holds left low some fits lowest (suc low) (omega arith)
-        ∙ and_false_r (holds left (suc low)) (not (eqb (suc low) (suc low))) (ap not (eq-eqb (suc low) (suc low) refl))))
-        before more
-
-    pub taken_within : Within (bit_and left (left - 1)) set
-    unfolding Within
-    taken_within v l t = inside v l (and_l (holds left v) (not (eqb v (suc low))) (sym (left_holds left low some fits lowest v l) ∙ t))
-
-  pub taken_room_all : (left r : ℕ) → left ≡ 0 → Most (taken_room Q set start left) r → Most (λ e. (e ≤ start) × ((v : ℕ) → 1 ≤ v → holds set v ≡ true → Q v e)) r
-  taken_room_all left r none before =
+  pub members_room_more :
+      {left low rest : ℕ} → Taken left low rest → ((v e f : ℕ) → e ≤ f → Q v f → Q v e) → (room next : ℕ) → Most (λ e. (e ≤ room) × Q (suc low) e) next →
+      (r : ℕ) → Most (members_room rest next) r → Most (members_room left room) r
+  members_room_more {left} {low} {rest} t down room next narrowed r most =
       record {
-        fits = (before.fits.0, λ v l t. before.fits.1 v l t (ap (λ (s : ℕ). holds s v) none ∙ none_holds v));
-        most = λ e a. before.most e (a.0, λ v l t g. a.1 v l t);
+        fits = (
+          omega (arith, most.fits.0, narrowed.fits.0),
+          λ v l here.
+              by_bool (eqb v (suc low)) (λ q. rw (eqb-true v (suc low) q) (down (suc low) r next most.fits.0 narrowed.fits.1))
+              (λ q. most.fits.1 v l (taken_left t v l ∙ rw (here, q) refl)),
+        );
+        most = λ e a.
+            most.most e (
+              narrowed.most e (a.0, a.1 (suc low) (omega arith) (taken_in t)),
+              λ v l here. a.1 v l (and_l (holds left v) (not (eqb v (suc low))) (sym (taken_left t v l) ∙ here)),
+            );
       }
+
+  pub members_room_none : (left room : ℕ) → left ≡ 0 → Most (members_room left room) room
+  members_room_none left room none = record { fits = (omega arith, λ v l here. clash here (ap (λ (s : ℕ). holds s v) none ∙ none_holds v)); most = λ e a. a.0 }
 
 -- the room that potentials over low leave
 module _ (potential : List ℕ) (low : ℕ) where
@@ -156,8 +143,7 @@ module _ (potential : List ℕ) (low : ℕ) where
 
   pub over_narrow : (j r s : ℕ) → s ≡ min r (get_or potential j 0 - low) → Most (λ e. (e ≤ r) × over (suc j) e) s
   over_narrow j r s narrowed =
-      let back : suc j - 1 ≡ j = omega arith in
-      rw (back, narrowed) (record { fits = (omega arith, omega arith); most = λ e x. omega (arith, x.0, x.1) })
+      rw (at-suc potential j, narrowed) (record { fits = (omega arith, omega arith); most = λ e x. omega (arith, x.0, x.1) })
 
 -- the room that the junctions of a neighbourhood outside the set leave
 module _ (near : List ℕ) (potential : List ℕ) (z : ℕ) where
@@ -168,12 +154,11 @@ module _ (near : List ℕ) (potential : List ℕ) (z : ℕ) where
   beyond_down v e f le x u l o t = omega (arith, x u l o t)
 
   pub beyond_narrow :
-      (j r s w : ℕ) → w ≡ bit_xor (get_or near j 0) (bit_and (get_or near j 0) z) → Most (λ e. (e ≤ r) × OverSet (at potential) (get_or potential j 0) w e) s →
+      (j r s w : ℕ) → ((u : ℕ) → holds w u ≡ (holds (get_or near j 0) u && not (holds z u))) → Most (λ e. (e ≤ r) × OverSet (at potential) (get_or potential j 0) w e) s →
       Most (λ e. (e ≤ r) × beyond (suc j) e) s
   unfolding OverSet
-  beyond_narrow j r s w is most =
-      let back : suc j - 1 ≡ j = omega arith in
-      rw (back)
+  beyond_narrow j r s w is_in most =
+      rw (at-suc near j, at-suc potential j)
       (record {
         fits = (most.fits.0, λ u l o t. most.fits.1 u l (is_in u ∙ and_i (holds (get_or near j 0) u) (not (holds z u)) t (ap not o)));
         most = λ e x.
@@ -184,6 +169,3 @@ module _ (near : List ℕ) (potential : List ℕ) (z : ℕ) where
                   x.1 u l (not-true (holds z u) (and_r (holds (get_or near j 0) u) (not (holds z u)) both)) (and_l (holds (get_or near j 0) u) (not (holds z u)) both),
             );
       })
-    where
-      is_in : (u : ℕ) → holds w u ≡ (holds (get_or near j 0) u && not (holds z u))
-      is_in u = ap (λ (s : ℕ). holds s u) is ∙ less_holds (get_or near j 0) z u

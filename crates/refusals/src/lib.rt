@@ -1,13 +1,15 @@
 // Why a call is turned back: the kinds of documents 01 and 02, each with the number and the row that the papers give it.
 #![tactic(auto)]
 
-ghost use Rattle.std.specs.Prelude.{◌≡◌, eqb};
+ghost use Rattle.std.specs.Prelude.{◌≡◌, Some, ◌++◌, codes};
+ghost use Rattle.std.specs.Fmt.{decimal};
 ghost use Rattle.refusals.specs.Kinds.{refusal_of};
 
+use std::fmt;
+
 // What turns a call back; the kinds of a row carry its number, from 1.
-#[derive(Clone, Copy)]
+#[derive(Clone, Copy, PartialEq, Eq, Debug)]
 pub enum Kind {
-    None,
     ListShort,
     FileLength,
     JunctionCount,
@@ -29,55 +31,69 @@ pub enum Kind {
     LoneRow,
 }
 
+#[tactic(auto, unfolding(crate::specs::Kinds::refusal_of, hall::specs::File::refusal))]
 impl Kind {
-    #[tactic(auto, unfolding(crate::specs::Kinds::refusal_of, hall::specs::File::refusal))]
-    pub fn is_none(self) -> bool
-        ensures { result ≡ eqb (refusal_of self).number 0 }
+    // The number of a refusal, which callers from C read; a kind carries its row, so `as` cannot give it.
+    pub fn number(self) -> u32
+        ensures { result ≡ (refusal_of self).number }
     {
         match self {
-            Kind::None => true,
-            _ => false,
+            Kind::ListShort => 1,
+            Kind::FileLength => 2,
+            Kind::JunctionCount => 3,
+            Kind::Blocks => 4,
+            Kind::RowCount => 5,
+            Kind::RowEnds(_) => 6,
+            Kind::RowPrice(_) => 8,
+            Kind::Unjoined => 9,
+            Kind::Choice => 10,
+            Kind::RouteEnd => 11,
+            Kind::Site => 12,
+            Kind::HallCount => 13,
+            Kind::KitStock => 14,
+            Kind::FixedCut => 15,
+            Kind::LoadWidth => 16,
+            Kind::SitePlace => 17,
+            Kind::Bridge => 18,
+            Kind::FixedRow => 19,
+            Kind::LoneRow => 20,
+        }
+    }
+
+    // The row of a refusal, 0 where it carries none: callers from C read a row or 0.
+    pub fn row(self) -> u32
+        ensures { result ≡ (refusal_of self).place }
+    {
+        match self {
+            Kind::RowEnds(row) | Kind::RowPrice(row) => row,
+            Kind::ListShort
+            | Kind::FileLength
+            | Kind::JunctionCount
+            | Kind::Blocks
+            | Kind::RowCount
+            | Kind::Unjoined
+            | Kind::Choice
+            | Kind::RouteEnd
+            | Kind::Site
+            | Kind::HallCount
+            | Kind::KitStock
+            | Kind::FixedCut
+            | Kind::LoadWidth
+            | Kind::SitePlace
+            | Kind::Bridge
+            | Kind::FixedRow
+            | Kind::LoneRow => 0,
         }
     }
 }
 
-// The number of a refusal, 0 for none.
-#[tactic(auto, unfolding(crate::specs::Kinds::refusal_of, hall::specs::File::refusal))]
-pub fn number_of(kind: Kind) -> u32
-    ensures { result ≡ (refusal_of kind).number }
-{
-    match kind {
-        Kind::None => 0,
-        Kind::ListShort => 1,
-        Kind::FileLength => 2,
-        Kind::JunctionCount => 3,
-        Kind::Blocks => 4,
-        Kind::RowCount => 5,
-        Kind::RowEnds(_) => 6,
-        Kind::RowPrice(_) => 8,
-        Kind::Unjoined => 9,
-        Kind::Choice => 10,
-        Kind::RouteEnd => 11,
-        Kind::Site => 12,
-        Kind::HallCount => 13,
-        Kind::KitStock => 14,
-        Kind::FixedCut => 15,
-        Kind::LoadWidth => 16,
-        Kind::SitePlace => 17,
-        Kind::Bridge => 18,
-        Kind::FixedRow => 19,
-        Kind::LoneRow => 20,
-    }
-}
+// The line of a refusal: its number and its row.
+impl fmt::Display for Kind {
+    ghost output = { λ k. Some (codes "REFUSED " ++ decimal (refusal_of k).number ++ codes " " ++ decimal (refusal_of k).place) };
 
-// The row of a refusal, 0 where it carries none.
-#[tactic(auto, unfolding(crate::specs::Kinds::refusal_of, hall::specs::File::refusal))]
-pub fn row_of(kind: Kind) -> u32
-    ensures { result ≡ (refusal_of kind).place }
-{
-    match kind {
-        Kind::RowEnds(row) => row,
-        Kind::RowPrice(row) => row,
-        _ => 0,
+    fn fmt<W: fmt::Write>(&self, f: &mut fmt::Formatter<W>) -> fmt::Result {
+        let number = self.number();
+        let row = self.row();
+        write!(f, "REFUSED {number} {row}")
     }
 }

@@ -1,2 +1,2 @@
-pub mod Steps
 pub mod Repairing
+pub mod Steps

@@ -5,113 +5,104 @@ use mathlib.Core.List.{List}
 use Prim.Native.Nat.{ℕ, zero, suc, ◌+◌, ◌-◌, ◌^◌, ◌≤◌, ◌<◌}
 use native.Mathlib.Omega.{arith}
 use lib.Dec.{ltb}
-use lib.ListN.{get_or, length, replicate, get_or-replicate, get_or-eq_default}
-use borrow.Author.Tests.{ltb-true, ltb-false}
+use lib.ListN.{get_or, length, get_or-eq_default}
+use borrow.Author.Tests.{ltb-true, ltb-false, lt-ltb}
+use Rattle.std.specs.Prelude.{Option, Some, None}
 use Rattle.laws.specs.Lists.{at}
 use Rattle.laws.specs.Finite.{sum_below}
-use Rattle.laws.proofs.Booleans.{by_bool, clash, and_i}
+use Rattle.laws.proofs.Booleans.{by_bool, bool_ext, clash, and_i}
 use Rattle.laws.proofs.Finite.{sum_ext}
 use Rattle.hall.specs.Hall.{Hall, row, count}
 use Rattle.columns.specs.Columns.{flagged, Columns, Neighbourhoods}
+use Rattle.columns.specs.Lanes.{LanesOf}
+use Rattle.columns.specs.declared.Lanes.{Lanes}
+use Rattle.columns.proofs.Places.{place_tail, place_head}
 use Rattle.potentials.specs.Potential.{Paid, gap, slack}
 use Rattle.potentials.specs.Repair.{Repairable}
-use Rattle.zerograph.specs.Low.{Low}
-use Rattle.zerograph.proofs.Rows.{chosen_here, cost_here, tail_level, head_level}
-use Rattle.repair.specs.Repairs.{unpaid, FirstUnpaid, SomeUnpaid, Free, Stepped, RepairStart, RepairEnd}
+use Rattle.columns.specs.Low.{Low}
+use Rattle.repair.specs.declared.State.{State}
+use Rattle.repair.specs.Repairs.{unpaid, FirstUnpaid, SomeUnpaid, Stepped, RepairStart, RepairEnd}
 
--- the test for a gap, from the columns
-pub short_here :
-    (h : Hall) (n m : ℕ) (tails heads costs : List ℕ) (chosen : List Bool) (potential : List ℕ) (cols : Columns h n m tails heads) (k a b : ℕ) → k < m →
-    suc a ≡ get_or tails k 0 → suc b ≡ get_or heads k 0 →
-    (get_or chosen k false && ltb (get_or potential b 0) (get_or potential a 0 + get_or costs k 0)) ≡ unpaid h (at costs) (at potential) (flagged chosen) (suc k)
+-- a number is over another exactly where the difference is not 0
+over : (x y : ℕ) → ltb 0 (x - y) ≡ ltb y x
+over x y =
+    bool_ext (ltb 0 (x - y)) (ltb y x) (λ e. lt-ltb y x (omega (arith, ltb-true 0 (x - y) e)))
+    (λ e. lt-ltb 0 (x - y) (omega (arith, ltb-true y x e)))
+
+-- the test for a gap, from the lanes
+pub unpaid_here :
+    (h : Hall) (n m : ℕ) (tails heads costs potential : List ℕ) (chosen : List Bool) → Columns h n m tails heads → (k a b : ℕ) → k < m →
+    suc a ≡ get_or tails k 0 → suc b ≡ get_or heads k 0 → (gap : ℕ) → gap ≡ get_or potential a 0 + get_or costs k 0 - get_or potential b 0 →
+    unpaid h (at costs) (at potential) (flagged chosen) (suc k) ≡ (get_or chosen k false && ltb 0 gap)
 unfolding unpaid
-short_here h n m tails heads costs chosen potential cols k a b less tail_is head_is =
-    rw (
-      chosen_here h n m tails heads costs chosen chosen potential cols k a b less tail_is head_is,
-      cost_here h n m tails heads costs chosen chosen potential cols k a b less tail_is head_is,
-      tail_level h n m tails heads costs chosen chosen potential cols k a b less tail_is head_is,
-      head_level h n m tails heads costs chosen chosen potential cols k a b less tail_is head_is,
-    )
-    refl
+unpaid_here h n m tails heads costs potential chosen cols k a b less tail head gap is =
+    let from_is : (row h (suc k)).from ≡ suc a = omega (arith, place_tail h n m tails heads cols k less) in
+    let to_is : (row h (suc k)).to ≡ suc b = omega (arith, place_head h n m tails heads cols k less) in
+    let back : (x : ℕ) → suc x - 1 ≡ x = λ x. omega arith in
+    rw (from_is, to_is, back k, back a, back b, is, over) refl
 
--- the slack, from the columns: it falls with each step
-unfoldable pub columns_slack : (m : ℕ) (tails heads : List ℕ) (c p : ℕ → ℕ) (F : ℕ → Bool) → ℕ
-columns_slack m tails heads c p F = sum_below m (λ k. cond (F (suc k)) (p (at tails (suc k)) + c (suc k) - p (at heads (suc k))) 0)
+-- the first from place 0 on is one
+pub first_some : (h : Hall) (c p : ℕ → ℕ) (F : ℕ → Bool) (m : ℕ) (r : Option ℕ) → FirstUnpaid h c p F 0 m r → SomeUnpaid h c p F m r
+first_some h c p F m (Some r) first = (first.0, first.1)
+first_some h c p F m None first = λ k less. first k (omega arith) less
 
-pub slack_columns :
-    (h : Hall) (n m : ℕ) (tails heads : List ℕ) → Columns h n m tails heads → (c p : ℕ → ℕ) (F : ℕ → Bool) → slack h c p F ≡ columns_slack m tails heads c p F
-unfolding slack gap columns_slack
-slack_columns h n m tails heads cols c p F =
-    rw cols.rows
-    (sum_ext m (λ k. cond (F (suc k)) (p (row h (suc k)).from + c (suc k) - p (row h (suc k)).to) 0)
-    (λ k. cond (F (suc k)) (p (at tails (suc k)) + c (suc k) - p (at heads (suc k))) 0)
-    (λ k l. rw (cols.tail (suc k) (omega arith) l, cols.head (suc k) (omega arith) l) refl))
+-- the slack, from the lanes: it falls with each step
+unfoldable pub lanes_slack : Lanes → (c p : ℕ → ℕ) → (F : ℕ → Bool) → ℕ
+lanes_slack l c p F = sum_below l.count (λ k. cond (F (suc k)) (p (at l.tails (suc k)) + c (suc k) - p (at l.heads (suc k))) 0)
 
--- levels below 2 to the power 62 are low
-pub low_levels : (xs : List ℕ) → length xs ≡ 64 → ((j : ℕ) → 1 ≤ j → j ≤ 64 → at xs j < 2 ^ 62) → Low xs
-low_levels xs size low k =
+pub slack_lanes : (h : Hall) (l : Lanes) → LanesOf h l → (c p : ℕ → ℕ) (F : ℕ → Bool) → slack h c p F ≡ lanes_slack l c p F
+unfolding slack gap lanes_slack
+slack_lanes h l lanes c p F =
+    rw lanes.rows
+    (sum_ext l.count (λ k. cond (F (suc k)) (p (row h (suc k)).from + c (suc k) - p (row h (suc k)).to) 0)
+    (λ k. cond (F (suc k)) (p (at l.tails (suc k)) + c (suc k) - p (at l.heads (suc k))) 0)
+    (λ k less. rw (lanes.tail (suc k) (omega arith) less, lanes.head (suc k) (omega arith) less) refl))
+
+-- levels below a bound, place by place
+pub levels_below : (most : ℕ) (xs : List ℕ) → 0 < most → length xs ≡ 64 → ((j : ℕ) → 1 ≤ j → j ≤ 64 → at xs j < most) → (k : ℕ) → get_or xs k 0 < most
+levels_below most xs some size low k =
     by_bool (ltb k 64)
     (λ e. let back : suc k - 1 ≡ k = omega arith in rw back at (low (suc k) (omega arith) (ltb-true k 64 e)))
     (λ e. omega (arith, get_or-eq_default xs 0 {n = k} (omega (arith, size, ltb-false k 64 e))))
 
--- flags that are all set make every row movable
-pub all_free : (h : Hall) (movable : List Bool) → count h ≤ 256 → ((k : ℕ) → k < 256 → get_or movable k false ≡ true) → Free h (flagged movable)
-all_free h movable few set i l u = set (i - 1) (omega arith)
+-- what repair keeps: a state that can be repaired, in which no level has grown by more than the slack has fallen
+pub record Kept (h : Hall) (c : ℕ → ℕ) (from to : State) : Type 0 where
+  pub repairable : Repairable h c (at to.potential) (flagged to.chosen)
+  pub around : Neighbourhoods h (flagged to.chosen) to.around
+  pub bound : (j : ℕ) → 1 ≤ j → j ≤ 64 →
+      at to.potential j + slack h c (at to.potential) (flagged to.chosen) ≤ at from.potential j + slack h c (at from.potential) (flagged from.chosen)
 
-pub all_set : (k : ℕ) → k < 256 → get_or (replicate 256 true) k false ≡ true
-all_set k less = get_or-replicate 256 k true false less
+module _ (h : Hall) (c : ℕ → ℕ) (from : State) where
+  pub kept_start : Repairable h c (at from.potential) (flagged from.chosen) → Neighbourhoods h (flagged from.chosen) from.around → Kept h c from from
+  kept_start start around = record { repairable = start; around = around; bound = λ j l u. omega arith }
 
--- the first from place 0 on is one
-pub first_some : (h : Hall) (c p : ℕ → ℕ) (F : ℕ → Bool) (m r : ℕ) → FirstUnpaid h c p F 0 m r → SomeUnpaid h c p F m r
-first_some h c p F m r first = record { here = first.here; none = λ done k l. first.earlier k (omega arith) (omega arith) }
-
--- what repair keeps, with the place of a row that has a gap
-pub record Kept (h : Hall) (c p q : ℕ → ℕ) (F G : ℕ → Bool) (near : List ℕ) (m k : ℕ) : Type 0 where
-  pub repairable : Repairable h c q G
-  pub around : Neighbourhoods h G near
-  pub bound : (j : ℕ) → 1 ≤ j → j ≤ 64 → q j + slack h c q G ≤ p j + slack h c p F
-  pub next : SomeUnpaid h c q G m k
-
-module _ (h : Hall) (c p : ℕ → ℕ) (F : ℕ → Bool) (m : ℕ) where
-  pub kept_start :
-      (near : List ℕ) (k : ℕ) → Repairable h c p F → Neighbourhoods h F near → SomeUnpaid h c p F m k → Kept h c p p F F near m k
-  kept_start near k start around next = record { repairable = start; around = around; bound = λ j l u. omega arith; next = next }
-
-  module _ (q : ℕ → ℕ) (G : ℕ → Bool) (near : List ℕ) (k : ℕ) (kept : Kept h c p q F G near m k) where
-    pub kept_more :
-        (s : ℕ → ℕ) (H : ℕ → Bool) (nears : List ℕ) (i : ℕ) → Stepped h c q s G H nears → SomeUnpaid h c s H m i →
-        Kept h c p s F H nears m i
-    kept_more s H nears i step next =
-        record {
-          repairable = step.repairable;
-          around = step.around;
-          bound = λ j l u. omega (arith, kept.bound j l u, step.bound j l u);
-          next = next;
-        }
+  module _ (s : State) (kept : Kept h c from s) where
+    pub kept_more : (t : State) → Stepped h c (at s.potential) (flagged s.chosen) t → Kept h c from t
+    kept_more t step =
+        record { repairable = step.repairable; around = step.around; bound = λ j l u. omega (arith, kept.bound j l u, step.bound j l u) }
 
     -- where no row has a gap, P2 holds
-    all_paid : count h ≡ m → m ≤ k → (i : ℕ) → 1 ≤ i → i ≤ count h → G i ≡ true → q (row h i).from + c i ≤ q (row h i).to
-    unfolding unpaid
-    all_paid rows done zero l u t = absurd (omega arith)
-    all_paid rows done (suc i) l u t =
-        let test : Bool = ltb (q (row h (suc i)).to) (q (row h (suc i)).from + c (suc i)) in
-        by_bool test
-        (λ e. clash (and_i (G (suc i)) test t e) (kept.next.none done i (omega (arith, rows))))
-        (λ e. ltb-false (q (row h (suc i)).to) (q (row h (suc i)).from + c (suc i)) e)
+    module _ (m : ℕ) (rows : count h ≡ m) (none : (k : ℕ) → k < m → unpaid h c (at s.potential) (flagged s.chosen) (suc k) ≡ false) where
+      all_paid : (i : ℕ) → 1 ≤ i → i ≤ count h → flagged s.chosen i ≡ true → at s.potential (row h i).from + c i ≤ at s.potential (row h i).to
+      unfolding unpaid
+      all_paid zero l u t = absurd (omega arith)
+      all_paid (suc k) l u t =
+          let low : ℕ = at s.potential (row h (suc k)).to in
+          let high : ℕ = at s.potential (row h (suc k)).from + c (suc k) in
+          by_bool (ltb low high) (λ e. clash (and_i (flagged s.chosen (suc k)) (ltb low high) t e) (none k (omega arith))) (λ e. ltb-false low high e)
 
-    pub kept_end : count h ≡ m → m ≤ k → RepairEnd h c p q F G near
-    unfolding Paid
-    kept_end rows done =
-        let r = kept.repairable in
-        record {
-          repaired = record { joining = r.joining; under = r.under; paid = all_paid rows done; parted = r.parted };
-          around = kept.around;
-          bound = λ j l u. omega (arith, kept.bound j l u);
-        }
+      pub kept_end : RepairEnd h c from s
+      unfolding Paid
+      kept_end =
+          let r = kept.repairable in
+          record {
+            repaired = record { joining = r.joining; under = r.under; paid = all_paid; parted = r.parted };
+            around = kept.around;
+            bound = λ j l u. omega (arith, kept.bound j l u);
+          }
 
 -- while it runs, levels stay low
 pub kept_low :
-    (n m : ℕ) (tails heads costs potential : List ℕ) (chosen : List Bool) (around : List ℕ) (start : RepairStart n m tails heads costs potential chosen around) (q near : List ℕ) (G : ℕ → Bool) (k : ℕ) →
-    length q ≡ 64 → Kept start.hall (at costs) (at potential) (at q) (flagged chosen) G near m k → Low q
-kept_low n m tails heads costs potential chosen around start q near G k size kept =
-    low_levels q size (λ j l u. omega (arith, kept.bound j l u, start.bound j l u))
+    (l : Lanes) (costs : List ℕ) (from : State) (start : RepairStart l costs from) (s : State) → Kept start.hall (at costs) from s →
+    length s.potential ≡ 64 → Low s.potential
+kept_low l costs from start s kept size = levels_below (2 ^ 62) s.potential (omega arith) size (λ j lj uj. omega (arith, kept.bound j lj uj, start.bound j lj uj))

@@ -2,21 +2,23 @@
 // These are `Repaired` in `potentials`; the neighbourhoods of the choice are those of `tight`.
 #![tactic(auto)]
 
-ghost use Rattle.std.specs.Prelude.{◌≡◌, true, ℕ, suc, ◌<◌, length};
+ghost use Rattle.std.specs.Prelude.{◌≡◌, true, ℕ, suc, ◌<◌};
 ghost use Rattle.laws.specs.Lists.{at};
 ghost use Rattle.hall.specs.Hall.{Hall};
 ghost use Rattle.dicuts.specs.Shores.{Ranged};
 ghost use Rattle.potentials.specs.Repair.{Repairable};
-ghost use Rattle.columns.specs.Columns.{flagged, Ends, Columns, Neighbourhoods};
-ghost use Rattle.zerograph.specs.Low.{Low};
+ghost use Rattle.columns.specs.Columns.{flagged, Columns, Neighbourhoods};
+ghost use Rattle.columns.specs.Lanes.{LanesOf};
 ghost use Rattle.repair.specs.Repairs.{unpaid, FirstUnpaid, SomeUnpaid, Free, Stepped, RepairStart, RepairEnd};
 
+use columns::{Costs, Lane, Lanes};
+use digraph::Search;
 use flip::flip;
-use junctions::{has, number, place};
+use junctions::has;
 use raise::raise_for;
-use zerograph::zero_graph;
+use zerograph::{Network, zero_graph};
 
-// A choice with its tight neighbourhoods, and a potential.
+// A choice with its tight neighbourhoods, and a potential: rows at 256 places and junctions at 64, in arrays, as a call uses no heap.
 #[derive(Clone, Copy)]
 pub struct State {
     pub chosen: [bool; 256],
@@ -24,141 +26,90 @@ pub struct State {
     pub around: [u64; 64],
 }
 
-// The place of the first chosen row with a gap, from a place on, or m where there is none.
-pub fn unpaid<'a>(
-    m: usize,
-    tails: &'a [u8; 256],
-    heads: &'a [u8; 256],
-    costs: &'a [u64; 256],
-    chosen: &'a [bool; 256],
-    potential: &'a [u64; 64],
-    from: usize,
-) -> usize
-    requires { Ends 64 m tails.now heads.now × Low costs.now × Low potential.now }
-    ensures { (h : Hall) (n : ℕ) → Columns h n m tails.now heads.now →
-        FirstUnpaid h (at costs.now) (at potential.now) (flagged chosen.now) from m result }
+// The place of the first chosen row with a gap, from a place on.
+pub fn unpaid(network: &Network<'_>, chosen: &[bool; 256], from: usize) -> Option<usize>
+    ensures { (h : Hall) (n : ℕ) → Columns h n network.now.lanes.now.count network.now.lanes.now.tails network.now.lanes.now.heads →
+        FirstUnpaid h (at network.now.costs.now.rows) (at network.now.potential.now) (flagged chosen.now) from network.now.lanes.now.count result }
 {
-    let mut k: usize = from;
-    while k < m {
-        let tail = place(tails[k]);
-        let head = place(heads[k]);
-        if chosen[k] & (potential[head] < potential[tail] + costs[k]) {
-            return k;
+    for k in from..network.lanes.count {
+        let lane = network.lanes.lane(k);
+        if chosen[k] & (network.gap(k, lane) > 0) {
+            return Some(k);
         }
-        k += 1;
     }
-    m
+    None
 }
 
-// The place of a chosen row with a gap, or m where there is none: from the last such row on, then from the start.
-pub fn next_unpaid<'a>(
-    m: usize,
-    tails: &'a [u8; 256],
-    heads: &'a [u8; 256],
-    costs: &'a [u64; 256],
-    chosen: &'a [bool; 256],
-    potential: &'a [u64; 64],
-    last: usize,
-) -> usize
-    requires { Ends 64 m tails.now heads.now × Low costs.now × Low potential.now }
-    ensures { (h : Hall) (n : ℕ) → Columns h n m tails.now heads.now →
-        SomeUnpaid h (at costs.now) (at potential.now) (flagged chosen.now) m result }
+// The place of a chosen row with a gap: from the last such row on, then from the start.
+pub fn next_unpaid(network: &Network<'_>, chosen: &[bool; 256], last: usize) -> Option<usize>
+    ensures { (h : Hall) (n : ℕ) → Columns h n network.now.lanes.now.count network.now.lanes.now.tails network.now.lanes.now.heads →
+        SomeUnpaid h (at network.now.costs.now.rows) (at network.now.potential.now) (flagged chosen.now) network.now.lanes.now.count result }
 {
-    let later = unpaid(m, tails, heads, costs, chosen, potential, last);
-    if later < m {
-        return later;
+    match unpaid(network, chosen, last) {
+        None => unpaid(network, chosen, 0),
+        found => found,
     }
-    unpaid(m, tails, heads, costs, chosen, potential, 0)
 }
 
 // One step for the chosen row at a place, which has a gap: a flip that drops it, or a raise.
-pub fn repair_step<'a>(
-    n: usize,
-    m: usize,
-    tails: &'a [u8; 256],
-    heads: &'a [u8; 256],
-    costs: &'a [u64; 256],
-    movable: &'a [bool; 256],
-    chosen: &'a [bool; 256],
-    potential: &'a [u64; 64],
-    around: &'a [u64; 64],
+pub fn repair_step(
+    network: &Network<'_>,
+    chosen: &[bool; 256],
+    around: &[u64; 64],
     row: usize,
 ) -> State
-    requires { Ends n m tails.now heads.now × Low costs.now × Low potential.now × (row < m)
-        × (length chosen.now ≡ 256) × (length potential.now ≡ 64) }
-    ensures { (length result.chosen ≡ 256) × (length result.potential ≡ 64) × ((h : Hall) → Columns h n m tails.now heads.now → Ranged h → Free h (flagged movable.now) →
-        Repairable h (at costs.now) (at potential.now) (flagged chosen.now) →
+    requires { row < network.now.lanes.now.count }
+    ensures { (h : Hall) → LanesOf h network.now.lanes.now → Ranged h → Free h (flagged network.now.movable.now) →
+        Repairable h (at network.now.costs.now.rows) (at network.now.potential.now) (flagged chosen.now) →
         Neighbourhoods h (flagged chosen.now) around.now →
-        unpaid h (at costs.now) (at potential.now) (flagged chosen.now) (suc row) ≡ true →
-        Stepped h (at costs.now) (at potential.now) (at result.potential) (flagged chosen.now) (flagged result.chosen) result.around) }
+        unpaid h (at network.now.costs.now.rows) (at network.now.potential.now) (flagged chosen.now) (suc row) ≡ true →
+        Stepped h (at network.now.costs.now.rows) (at network.now.potential.now) (flagged chosen.now) result }
 {
-    let tail = number(tails[row]);
-    let head = number(heads[row]);
-    let graph = zero_graph(
-        n, m, tails, heads, costs, movable, chosen, potential, around,
-    );
-    let mut distances = [64u8; 64];
-    let reached = digraph::reach(&graph, head, &mut distances);
-    if has(reached, tail - 1) {
+    let Lane { tail, head } = network.lanes.lane(row);
+    let (start, target) = (head + 1, tail + 1);
+    let graph = zero_graph(network, chosen, around);
+    let Search { set, distances } = digraph::reach(&graph, start);
+    if has(set, tail) {
         let next = flip(
-            m, tails, heads, costs, movable, chosen, potential, &graph, &distances, head, tail,
-            row, false,
+            network, chosen, &graph, &distances, start, target, row, false,
         );
-        let sets = tight::neighbourhoods(n, m, tails, heads, &next);
-        return State {
+        State {
             chosen: next,
-            potential: *potential,
-            around: sets,
-        };
-    }
-    let lifted = raise_for(
-        m, tails, heads, costs, movable, potential, around, reached, row,
-    );
-    State {
-        chosen: *chosen,
-        potential: lifted,
-        around: *around,
+            potential: *network.potential,
+            around: tight::neighbourhoods(network.lanes, &next),
+        }
+    } else {
+        State {
+            chosen: *chosen,
+            potential: raise_for(network, around, set, row),
+            around: *around,
+        }
     }
 }
 
 // Steps from a choice with its tight neighbourhoods until no chosen row has a gap: the choice that is left is one of the cheapest.
-pub fn repair<'a>(
-    n: usize,
-    m: usize,
-    tails: &'a [u8; 256],
-    heads: &'a [u8; 256],
-    costs: &'a [u64; 256],
-    chosen: [bool; 256],
-    potential: [u64; 64],
-    around: [u64; 64],
-) -> State
-    requires { Ends n m tails.now heads.now × Low costs.now × RepairStart n m tails.now heads.now costs.now potential chosen around }
-    ensures { (h : Hall) → Columns h n m tails.now heads.now → Ranged h →
-        Repairable h (at costs.now) (at potential) (flagged chosen) → Neighbourhoods h (flagged chosen) around →
-        RepairEnd h (at costs.now) (at potential) (at result.potential) (flagged chosen) (flagged result.chosen) result.around }
+pub fn repair(lanes: &Lanes, costs: &Costs, mut state: State) -> State
+    requires { RepairStart lanes.now costs.now.rows state }
+    ensures { (h : Hall) → LanesOf h lanes.now → Ranged h →
+        Repairable h (at costs.now.rows) (at state.potential) (flagged state.chosen) → Neighbourhoods h (flagged state.chosen) state.around →
+        RepairEnd h (at costs.now.rows) state result }
 {
     let movable = [true; 256];
-    let mut state = State {
-        chosen,
-        potential,
-        around,
-    };
-    let mut row = unpaid(m, tails, heads, costs, &state.chosen, &state.potential, 0);
-    while row < m {
-        let next = repair_step(
-            n,
-            m,
-            tails,
-            heads,
+    let mut last = 0;
+    loop {
+        let network = Network {
+            lanes,
             costs,
-            &movable,
-            &state.chosen,
-            &state.potential,
-            &state.around,
-            row,
-        );
-        state = next;
-        row = next_unpaid(m, tails, heads, costs, &state.chosen, &state.potential, row);
+            movable: &movable,
+            potential: &state.potential,
+        };
+        match next_unpaid(&network, &state.chosen, last) {
+            None => return state,
+            Some(row) => {
+                let next = repair_step(&network, &state.chosen, &state.around, row);
+                state = next;
+                last = row;
+            }
+        }
     }
-    state
 }

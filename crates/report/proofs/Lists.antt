@@ -1,59 +1,36 @@
 -- What a plan leaves in lists of full length is what the report prints. Assumes nothing.
 use mathlib.Core.Path.{◌≡◌, refl, sym, ap, ap₂, ◌∙◌, subst}
 use mathlib.Core.Bool.{true, false}
-use mathlib.Core.List.{List, [], ◌∷◌, ◌++◌}
+use mathlib.Core.List.{List, [], ◌∷◌, ◌++◌, map}
 use Prim.Native.Nat.{ℕ, zero, suc, ◌≤◌}
 use native.Mathlib.Omega.{arith}
 use lib.Dec.{eqb}
 use lib.IntN.{ℤ}
-use lib.ListN.{length, take, drop, length-append}
+use lib.ListN.{length, take, drop, length-append, length-map}
 use borrow.Author.Tests.{eqb-true}
+use Rattle.std.specs.Prelude.{Result, Ok, Err}
 use Rattle.laws.specs.Lists.{in_front}
 use Rattle.laws.proofs.Booleans.{clash}
+use Rattle.laws.proofs.Lists.{front_fits, front_are}
 use Rattle.hall.specs.Hall.{Hall, count}
 use Rattle.hall.specs.File.{Refusal, refusal, hall_in, hall_refusal}
 use Rattle.hall.specs.Plan.{Cut, cut, First, Beside, total, levels, levels_from, most_cuts}
-use Rattle.hallfile.specs.declared.HallRecord.{HallRecord}
-use Rattle.refusals.specs.Kinds.{refusal_of}
-use Rattle.hallfile.specs.Record.{record_of}
+use Rattle.hallfile.specs.declared.record.HallRecord.{HallRecord}
+use Rattle.hallfile.specs.Record.{RecordOf}
+use Rattle.refusals.specs.declared.Kind.{Kind}
+use Rattle.refusals.specs.Kinds.{answered, refusal_of}
+use Rattle.refusals.proofs.Numbers.{answer_none, kind_refused}
 use Rattle.levels.proofs.Levelling.{levels_size}
 use Rattle.planning.specs.declared.Planned.{Planned}
-use Rattle.planning.specs.Plan.{plan_refusal, shores, weights, Filled, Turned, PlanAs, PlanSays}
-use Rattle.planning.proofs.Fronts.{front_fits, front_are, shores-length, weights-length}
-use Rattle.lines.specs.Placed.{InFront}
+use Rattle.planning.specs.Plan.{plan_refusal, Filled, PlanAs, PlanSays}
 use Rattle.printing.specs.Printed.{printed_plan, printed_refusal}
 use Rattle.printing.specs.Recorded.{hall_of, paired, Printable}
 use Rattle.printing.proofs.Recorded.{hall_of_record}
-use Rattle.report.specs.Report.{ReportAs, ReportSays}
-
--- with lists of full length only the hall's refusals are left
-full_lists : (bs : List ℕ) (r : Planned) (a x b y q z : List ℕ) (d w : List ℤ) → length a ≡ 256 → length b ≡ 125 → length q ≡ 125 → length d ≡ 64 →
-    PlanSays bs r a x b y q z d w → PlanAs (hall_refusal bs).number (hall_refusal bs) (hall_in bs) r a x b y q z d w
-unfolding PlanSays plan_refusal
-full_lists bs r a x b y q z d w la lb lq ld says = rw (la, lb, lq, ld) at says
-
-module _ (f : Refusal) (h : Hall) (r : Planned) (a x b y q z : List ℕ) (d w : List ℤ) where
-  refused_as : (k : ℕ) → f.number ≡ k → PlanAs k f h r a x b y q z d w → eqb (refusal_of r.refusal).number 0 ≡ false →
-      (before after : List ℕ) (size : ℕ) → InFront (printed_refusal (refusal_of r.refusal)) before after size → ReportAs k f h before after size
-  unfolding PlanAs Filled Turned ReportAs refusal
-  refused_as zero e plan n before after size put = clash (ap (λ (g : Refusal). eqb g.number 0) plan.4.0) n
-  refused_as (suc k) e turned n before after size put = subst (λ (g : Refusal). InFront (printed_refusal g) before after size) turned.0 put
-
-  report_refused : PlanAs f.number f h r a x b y q z d w → eqb (refusal_of r.refusal).number 0 ≡ false →
-      (before after : List ℕ) (size : ℕ) → InFront (printed_refusal (refusal_of r.refusal)) before after size → ReportAs f.number f h before after size
-  report_refused plan n before after size put = refused_as f.number refl plan n before after size put
-
-  none_as : (k : ℕ) → f.number ≡ k → PlanAs k f h r a x b y q z d w → eqb (refusal_of r.refusal).number 0 ≡ true → k ≡ 0
-  unfolding PlanAs Turned
-  none_as zero e plan t = refl
-  none_as (suc k) e turned t = omega (arith, eqb-true f.number 0 (ap (λ (g : Refusal). eqb g.number 0) (sym turned.0) ∙ t))
-
-  number_none : PlanAs f.number f h r a x b y q z d w → eqb (refusal_of r.refusal).number 0 ≡ true → f.number ≡ 0
-  number_none plan t = none_as f.number refl plan t
+use Rattle.report.specs.Report.{PlanPrinted, ReportAs, ReportSays, ListSays}
 
 -- the cuts of a list's shores and weights are the list
-pub same_cuts : (ks : List Cut) → paired (shores ks) (weights ks) ≡ ks
-unfolding paired shores weights cut
+same_cuts : (ks : List Cut) → paired (map (λ (k : Cut). k.shore) ks) (map (λ (k : Cut). k.weight) ks) ≡ ks
+unfolding paired cut
 same_cuts [] = refl
 same_cuts (k ∷ ks) = ap (λ (l : List Cut). k ∷ l) (same_cuts ks)
 
@@ -67,90 +44,106 @@ pub record Lists (h : Hall) (r : Planned) (x y z : List ℕ) (w : List ℤ) : Ty
   pub rows_fit : r.chosen ≤ length x
   pub rows_are : take r.chosen x ≡ choice
   pub shores_fit : r.cuts ≤ length y
-  pub shores_are : take r.cuts y ≡ shores cuts
+  pub shores_are : take r.cuts y ≡ map (λ (k : Cut). k.shore) cuts
   pub weights_fit : r.cuts ≤ length z
-  pub weights_are : take r.cuts z ≡ weights cuts
+  pub weights_are : take r.cuts z ≡ map (λ (k : Cut). k.weight) cuts
   pub levels_fit : r.levels ≤ length w
   pub levels_are : take r.levels w ≡ levels h cuts
 
+levels-length : (h : Hall) (ks : List Cut) → length (levels h ks) ≡ h.n
+unfolding levels
+levels-length h ks = levels_size ks h.n 1
+
 module _ (h : Hall) (r : Planned) (a x b y q z : List ℕ) (d w : List ℤ) where
-  plan_lists : PlanAs 0 (refusal 0 0) h r a x b y q z d w → Lists h r x y z w
-  unfolding PlanAs Filled in_front levels
+  plan_lists : PlanAs h r a x b y q z d w → Lists h r x y z w
+  unfolding PlanAs Filled
   plan_lists plan =
       let c = plan.0 in
       let ks = plan.1 in
       let filled = plan.4 in
-      let last : r.levels ≡ length (levels_from h.n 1 ks) = filled.3 ∙ sym (levels_size ks h.n 1) in
-      let tail : w ≡ levels_from h.n 1 ks ++ drop (length (levels_from h.n 1 ks)) d =
-      filled.8 ∙ ap (λ (k : ℕ). levels_from h.n 1 ks ++ drop k d) (sym (levels_size ks h.n 1)) in
+      let ss = map (λ (k : Cut). k.shore) ks in
+      let ws = map (λ (k : Cut). k.weight) ks in
+      let shores_many : r.cuts ≡ length ss = filled.1 ∙ sym (length-map ks (λ (k : Cut). k.shore)) in
+      let weights_many : r.cuts ≡ length ws = filled.1 ∙ sym (length-map ks (λ (k : Cut). k.weight)) in
+      let levels_many : r.levels ≡ length (levels h ks) = filled.2 ∙ sym (levels-length h ks) in
       record {
         choice = c;
         cuts = ks;
         first = plan.2;
         beside = plan.3;
-        total_is = filled.4;
-        rows_fit = front_fits c a x r.chosen filled.1 filled.5;
-        rows_are = front_are c a x r.chosen filled.1 filled.5;
-        shores_fit = front_fits (shores ks) b y r.cuts (filled.2 ∙ sym (shores-length ks)) filled.6;
-        shores_are = front_are (shores ks) b y r.cuts (filled.2 ∙ sym (shores-length ks)) filled.6;
-        weights_fit = front_fits (weights ks) q z r.cuts (filled.2 ∙ sym (weights-length ks)) filled.7;
-        weights_are = front_are (weights ks) q z r.cuts (filled.2 ∙ sym (weights-length ks)) filled.7;
-        levels_fit = front_fits (levels_from h.n 1 ks) d w r.levels last tail;
-        levels_are = front_are (levels_from h.n 1 ks) d w r.levels last tail;
+        total_is = filled.3;
+        rows_fit = front_fits c a x r.chosen filled.0 filled.4;
+        rows_are = front_are c a x r.chosen filled.0 filled.4;
+        shores_fit = front_fits ss b y r.cuts shores_many filled.5;
+        shores_are = front_are ss b y r.cuts shores_many filled.5;
+        weights_fit = front_fits ws q z r.cuts weights_many filled.6;
+        weights_are = front_are ws q z r.cuts weights_many filled.6;
+        levels_fit = front_fits (levels h ks) d w r.levels levels_many filled.7;
+        levels_are = front_are (levels h ks) d w r.levels levels_many filled.7;
       }
 
--- WHAT PLANNING LEAVES in lists of full length: the number of a refusal, or the lists of a plan
-pub record Outcome (bs : List ℕ) (r : Planned) (x y z : List ℕ) (w : List ℤ) : Type 0 where
-  pub refused : eqb (refusal_of r.refusal).number 0 ≡ false → {before after : List ℕ} {size : ℕ} → InFront (printed_refusal (refusal_of r.refusal)) before after size → ReportSays bs before after size
-  pub fine : eqb (refusal_of r.refusal).number 0 ≡ true → (hall_refusal bs).number ≡ 0
-  pub lists : (hall_refusal bs).number ≡ 0 → Lists (hall_in bs) r x y z w
+-- with lists of full length planning refuses what the hall's file does, or leaves a plan
+module _ (bs a x b y q z : List ℕ) (d w : List ℤ) (la : length a ≡ 256) (lb : length b ≡ 125) (lq : length q ≡ 125) (ld : length d ≡ 64) where
+  full_refusal : plan_refusal bs (length a) (length b) (length q) (length d) ≡ hall_refusal bs
+  unfolding plan_refusal
+  full_refusal = rw (la, lb, lq, ld) refl
 
-pub outcome : (bs : List ℕ) (r : Planned) (a x b y q z : List ℕ) (d w : List ℤ) → length a ≡ 256 → length b ≡ 125 → length q ≡ 125 → length d ≡ 64 → PlanSays bs r a x b y q z d w → Outcome bs r x y z w
-unfolding ReportSays PlanAs
-outcome bs r a x b y q z d w la lb lq ld says =
-    let f = hall_refusal bs in
-    let h = hall_in bs in
-    let plan = full_lists bs r a x b y q z d w la lb lq ld says in
-    record {
-      refused = λ n {before} {after} {size} put. report_refused f h r a x b y q z d w plan n before after size put;
-      fine = number_none f h r a x b y q z d w plan;
-      lists = λ none. plan_lists h r a x b y q z d w (rw none at plan);
-    }
+  pub planning_refused : (k : Kind) → PlanSays bs (Err k) a x b y q z d w → refusal_of k ≡ hall_refusal bs
+  unfolding PlanSays answered
+  planning_refused k says = says.0 ∙ full_refusal
 
--- a plan's lists can be printed, and what is printed is the report
-module _ {h : Hall} {r : Planned} {x y z : List ℕ} {w : List ℤ} {hall : HallRecord} (size : h.n ≤ 64) (few : count h ≤ 256) (ls : Lists h r x y z w) (is : hall ≡ record_of h) where
+  pub planning_fine : {p : Planned} → PlanSays bs (Ok p) a x b y q z d w → Lists (hall_in bs) p x y z w
+  unfolding PlanSays
+  planning_fine {p} says = plan_lists (hall_in bs) p a x b y q z d w says.1
+
+-- a plan's lists can be printed, and what is printed is the plan
+module _ {h : Hall} {r : Planned} {x y z : List ℕ} {w : List ℤ} {hall : HallRecord} (ls : Lists h r x y z w) (is : RecordOf h hall) where
   same_hall : hall_of hall ≡ h
-  same_hall = ap hall_of is ∙ hall_of_record h few
+  same_hall = hall_of_record h hall is
+
+  cuts_are : paired (take r.cuts y) (take r.cuts z) ≡ ls.cuts
+  cuts_are = ap₂ paired ls.shores_are ls.weights_are ∙ same_cuts ls.cuts
 
   pub printable : Printable hall (take r.chosen x) (take r.cuts y) (take r.cuts z) (take r.levels w)
-  unfolding record_of levels most_cuts
+  unfolding most_cuts
   printable =
+      let shores_many : length (take r.cuts y) ≡ length ls.cuts = ap length ls.shores_are ∙ length-map ls.cuts (λ (k : Cut). k.shore) in
+      let weights_many : length (take r.cuts z) ≡ length ls.cuts = ap length ls.weights_are ∙ length-map ls.cuts (λ (k : Cut). k.weight) in
       record {
-        junctions = omega (arith, ap (λ (k : HallRecord). k.n) is);
-        few = omega (arith, ap (λ (k : HallRecord). k.count) is);
         choice = rw (same_hall, ls.rows_are) ls.first.choice;
-        cuts = omega (arith, ap length ls.shores_are, shores-length ls.cuts, ls.beside.few);
-        paired = ap length ls.shores_are ∙ shores-length ls.cuts ∙ sym (weights-length ls.cuts) ∙ ap length (sym ls.weights_are);
-        leveled = omega (arith, ap length ls.levels_are, levels_size ls.cuts h.n 1);
+        cuts = omega (arith, shores_many, ls.beside.few, is.junctions, hall.lanes.ends.size);
+        paired = shores_many ∙ sym weights_many;
+        leveled = omega (arith, ap length ls.levels_are, levels-length h ls.cuts, is.junctions, hall.lanes.ends.size);
       }
 
-  pub report_planned : (f : Refusal) → f.number ≡ 0 → {before after : List ℕ} {end : ℕ} →
-      InFront (printed_plan (hall_of hall) (take r.chosen x) r.total (paired (take r.cuts y) (take r.cuts z)) (take r.levels w)) before after end →
-      ReportAs f.number f h before after end
+  pub printed : {text : List ℕ} → text ≡ printed_plan (hall_of hall) (take r.chosen x) r.total (paired (take r.cuts y) (take r.cuts z)) (take r.levels w) → PlanPrinted h text
+  unfolding PlanPrinted
+  printed is_text = (ls.choice, ls.cuts, ls.first, ls.beside, rw (same_hall, ls.rows_are, ls.total_is, cuts_are, ls.levels_are) at is_text)
+
+-- the list is the report where there is one, and the line of the refusal where there is none
+module _ (bs : List ℕ) where
+  report_list : (f : Refusal) (h : Hall) (text : List ℕ) → f.number ≡ 0 → PlanPrinted h text → ReportAs f.number f h text
   unfolding ReportAs
-  report_planned f none put =
-      let same : paired (take r.cuts y) (take r.cuts z) ≡ ls.cuts = ap₂ paired ls.shores_are ls.weights_are ∙ same_cuts ls.cuts in
-      rw none (ls.choice, ls.cuts, ls.first, ls.beside, rw (same_hall, ls.rows_are, ls.total_is, same, ls.levels_are) at put)
+  report_list f h text none printed = rw none printed
 
--- what is reported lies in the buffer
-in_front_fits : (bytes before after : List ℕ) (size : ℕ) → InFront bytes before after size → size ≤ length after
-in_front_fits bytes before after size put = omega (arith, put.counted, ap length put.bytes_there, length-append bytes (drop (length bytes) before))
+  refused_as : (k : ℕ) (f : Refusal) (h : Hall) (text : List ℕ) → eqb k 0 ≡ false → text ≡ printed_refusal f → ReportAs k f h text
+  unfolding ReportAs
+  refused_as zero f h text over is = clash refl over
+  refused_as (suc k) f h text over is = is
 
-fits_as : (k : ℕ) (f : Refusal) (h : Hall) (before after : List ℕ) (size : ℕ) → ReportAs k f h before after size → size ≤ length after
-unfolding ReportAs
-fits_as zero f h before after size plan = in_front_fits (printed_plan h plan.0 (total h plan.0) plan.1 (levels h plan.1)) before after size plan.4
-fits_as (suc k) f h before after size put = in_front_fits (printed_refusal f) before after size put
+  -- the list is refused, or printed
+  pub list_refused : {r : Result (List ℕ) Kind} {k : Kind} → r ≡ Err k → refusal_of k ≡ hall_refusal bs → ListSays bs r
+  unfolding answered
+  list_refused {r} {k} e is = let s : ListSays bs (Err k) = record { refusal = is; list = tt } in rw e s
 
-pub report_fits : (bs before after : List ℕ) (size : ℕ) → ReportSays bs before after size → size ≤ length after
-unfolding ReportSays
-report_fits bs before after size says = fits_as (hall_refusal bs).number (hall_refusal bs) (hall_in bs) before after size says
+  pub report_planned : {r : Result (List ℕ) Kind} {text : List ℕ} → r ≡ Ok text → ListSays bs r → ReportSays bs text
+  unfolding ReportSays refusal
+  report_planned {r} {text} e says =
+      let s : ListSays bs (Ok text) = rw e at says in
+      report_list (hall_refusal bs) (hall_in bs) text (ap (λ (f : Refusal). f.number) (answer_none text (hall_refusal bs) s.refusal)) s.list
+
+  pub report_refused : {r : Result (List ℕ) Kind} {k : Kind} {text : List ℕ} → r ≡ Err k → ListSays bs r → text ≡ printed_refusal (refusal_of k) → ReportSays bs text
+  unfolding ReportSays answered
+  report_refused {r} {k} {text} e says is =
+      let s : ListSays bs (Err k) = rw e at says in
+      refused_as (hall_refusal bs).number (hall_refusal bs) (hall_in bs) text (kind_refused k (hall_refusal bs) s.refusal) (is ∙ ap printed_refusal s.refusal)

@@ -1,17 +1,26 @@
--- What stands in the buffer after a report: the printed plan, or the printed refusal. Assumes nothing: these are definitions.
-use Rattle.std.specs.Prelude.{List, ℕ, zero, suc}
+-- The text of a report: the printed plan, or the printed refusal. Assumes nothing: these are definitions.
+use Rattle.std.specs.Prelude.{◌≡◌, List, ℕ, zero, suc, Result, IfOk}
 use Rattle.hall.specs.Hall.{Hall}
 use Rattle.hall.specs.File.{Refusal, hall_in, hall_refusal}
 use Rattle.hall.specs.Plan.{First, Beside, Cut, total, levels}
-use Rattle.lines.specs.Placed.{InFront}
+use Rattle.refusals.specs.declared.Kind.{Kind}
+use Rattle.refusals.specs.Kinds.{answered}
 use Rattle.printing.specs.Printed.{printed_plan, printed_refusal}
 
--- a refusal's line, or the list of the first joining choice with cuts beside it
-unfoldable pub ReportAs : (number : ℕ) → Refusal → Hall → (before after : List ℕ) → (size : ℕ) → Type 0
-ReportAs zero f h before after size =
-    (c : List ℕ) × (ks : List Cut) × First h c × Beside h c ks × InFront (printed_plan h c (total h c) ks (levels h ks)) before after size
-ReportAs (suc n) f h before after size = InFront (printed_refusal f) before after size
+-- the list of the first joining choice with cuts beside it
+unfoldable pub PlanPrinted : Hall → (text : List ℕ) → Type 0
+PlanPrinted h text = (c : List ℕ) × (ks : List Cut) × First h c × Beside h c ks × (text ≡ printed_plan h c (total h c) ks (levels h ks))
+
+-- a refusal's line, or the list of the first joining choice
+unfoldable pub ReportAs : (number : ℕ) → Refusal → Hall → (text : List ℕ) → Type 0
+ReportAs zero f h text = PlanPrinted h text
+ReportAs (suc n) f h text = text ≡ printed_refusal f
 
 -- THE REPORT of a file
-unfoldable pub ReportSays : (bs before after : List ℕ) → (size : ℕ) → Type 0
-ReportSays bs before after size = ReportAs (hall_refusal bs).number (hall_refusal bs) (hall_in bs) before after size
+unfoldable pub ReportSays : (bs text : List ℕ) → Type 0
+ReportSays bs text = ReportAs (hall_refusal bs).number (hall_refusal bs) (hall_in bs) text
+
+-- THE LIST of a file, where nothing refuses it
+pub record ListSays (bs : List ℕ) (r : Result (List ℕ) Kind) : Type 0 where
+  pub refusal : answered r ≡ hall_refusal bs
+  pub list : IfOk r (λ text. PlanPrinted (hall_in bs) text)

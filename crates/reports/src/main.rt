@@ -4,17 +4,13 @@
 use std::io;
 use std::rt::Files;
 
-fn print_file(rt: &impl Print, name: &str, file: &[u8]) -> io::Result<()> {
+fn print_argument<R: Files + Print + Eprint>(rt: &R, name: &str) -> io::Result<()> {
+    let mut room = [0; input::ROOM];
+    let Ok(file) = input::read_file(rt, name, &mut room) else {
+        return Ok(());
+    };
     println!(rt; "{name}:")?;
     report::print_list(rt, file)
-}
-
-fn print_argument<R: Files + Print + Eprint>(rt: &R, name: &str) -> io::Result<()> {
-    let mut file = [0u8; 65_537];
-    match input::read_file(rt, name, &mut file) {
-        Ok(size) => print_file(rt, name, &file[..size]),
-        Err(_) => Ok(()),
-    }
 }
 
 fn main(rt: HostRuntime) -> io::Result<()> {

@@ -15,16 +15,16 @@ use junctions::Junctions;
 pub fn within(adjacency: &[u64; 64], set: u64) -> [u64; 64]
     ensures { (length result ≡ 64) × ((j : ℕ) → 1 ≤ j → j ≤ 64 → at result j ≡ inside set (at adjacency.now) j) }
 {
-    let mut arcs = [0u64; 64];
-    let mut k: usize = 0;
-    while k < 64 {
+    let mut arcs = [0; 64];
+    // By the place: with an array's `map` the proof did not close, as a clause knows each call and not that the closure stays the same.
+    for k in 0..64 {
         arcs[k] = set & adjacency[k];
-        k += 1;
     }
     arcs
 }
 
 // Adds the weight to what lies outside each component of the hall without the class.
+// The columns and the count are parameters as in `shorelist`, for the reason given there.
 pub fn add_components(
     n: usize,
     links: &[u64; 64],
@@ -38,28 +38,23 @@ pub fn add_components(
     ensures { Added count shores.old weights.old (components_weigh n (at links.now) class weight) result shores.new weights.new }
 {
     let all = Junctions::full(n).0;
-    let free = all ^ (all & class);
+    let free = all & !class;
     let inside = within(links, free);
     let mut left = free;
-    let mut distances = [0u8; 64];
     let mut filled = count;
     while left != 0 {
-        let component = digraph::reach(
-            &inside,
-            (u64::trailing_zeros(left) as usize) + 1,
-            &mut distances,
-        );
-        filled = shorelist::add(shores, weights, filled, all ^ (all & component), weight);
-        left = left ^ (left & component);
+        let component = digraph::reach(&inside, left.trailing_zeros() as usize + 1).set;
+        filled = shorelist::add(shores, weights, filled, all & !component, weight);
+        left &= !component;
     }
     filled
 }
 
-// The same for each class of the set.
-pub fn add_classes<'a, 'b>(
+// The same for each class of the set. The walk over pieces is that of `add_components`; what is done with a piece, and what is promised of it, is another.
+pub fn add_classes(
     n: usize,
-    links: &'a [u64; 64],
-    mates: &'b [u64; 64],
+    links: &[u64; 64],
+    mates: &[u64; 64],
     set: u64,
     weight: u32,
     shores: &mut [u64],
@@ -71,16 +66,11 @@ pub fn add_classes<'a, 'b>(
 {
     let inside = within(mates, set);
     let mut left = set;
-    let mut distances = [0u8; 64];
     let mut filled = count;
     while left != 0 {
-        let class = digraph::reach(
-            &inside,
-            (u64::trailing_zeros(left) as usize) + 1,
-            &mut distances,
-        );
+        let class = digraph::reach(&inside, left.trailing_zeros() as usize + 1).set;
         filled = add_components(n, links, class, weight, shores, weights, filled);
-        left = left ^ (left & class);
+        left &= !class;
     }
     filled
 }

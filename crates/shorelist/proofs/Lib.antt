@@ -1,5 +1,5 @@
-pub mod Places
-pub mod Insertion
-pub mod Room
 pub mod Adding
 pub mod Found
+pub mod Insertion
+pub mod Places
+pub mod Room

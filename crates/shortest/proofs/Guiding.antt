@@ -18,6 +18,7 @@ use Rattle.routes.specs.Nearer.{Nearer, LowestStep}
 use Rattle.routes.proofs.Steps.{starts-ahead, starts-back, ends-ahead, ends-back, may_intro, may_low, may_high, may_back}
 use Rattle.routes.proofs.Shortest.{direction, some_nearer}
 use Rattle.columns.specs.Columns.{flagged, Columns}
+use Rattle.columns.specs.declared.Lanes.{Lanes}
 use Rattle.shortest.specs.Steps.{leads_nearer, nearer_row, LowestOver, RowsOver, step_at, Guided}
 
 -- the test of one direction, from its parts and into them
@@ -40,33 +41,33 @@ nearer_is h c D x first s near e =
     ap₂ (λ (i : ℕ) (d : Bool). record { number = i; back = d }) e (direction h c D x s near ∙ ap (λ (i : ℕ). not (eqb (row h i).from x)) e) in
     subst (Nearer h c D x) is near
 
-module _ (h : Hall) (n m : ℕ) (ts hs : List ℕ) (fs : List Bool) (c : List ℕ) (cols : Columns h n m ts hs) (same : (i : ℕ) → 1 ≤ i → i ≤ m → flagged fs i ≡ member i c) (D : ℕ → ℕ) where
-  step_row : (x : ℕ) (s : Step) → Nearer h c D x s → nearer_row ts hs fs D x s.number ≡ true
+module _ (h : Hall) (l : Lanes) (fs : List Bool) (c : List ℕ) (cols : Columns h h.n l.count l.tails l.heads) (same : (i : ℕ) → 1 ≤ i → i ≤ l.count → flagged fs i ≡ member i c) (D : ℕ → ℕ) where
+  step_row : (x : ℕ) (s : Step) → Nearer h c D x s → nearer_row l fs D x s.number ≡ true
   unfolding nearer_row
   step_row x s near =
       let i = s.number in
       let low = may_low h c s near.runs in
-      let high : i ≤ m = omega (arith, may_high h c s near.runs, cols.rows) in
-      let ahead = leads_nearer D (at ts i) (at hs i) x in
-      let back = leads_nearer D (at hs i) (at ts i) x in
+      let high : i ≤ l.count = omega (arith, may_high h c s near.runs, cols.rows) in
+      let ahead = leads_nearer D (at l.tails i) (at l.heads i) x in
+      let back = leads_nearer D (at l.heads i) (at l.tails i) x in
       by_bool s.back
       (λ b. or_r ahead (flagged fs i && back)
       (and_i (flagged fs i) back (same i low high ∙ may_back h c s near.runs b)
-      (leads_intro D (at hs i) (at ts i) x (cols.head i low high ∙ sym (starts-back h s b) ∙ near.here)
+      (leads_intro D (at l.heads i) (at l.tails i) x (cols.head i low high ∙ sym (starts-back h s b) ∙ near.here)
       (omega (arith, near.closer, ap D (cols.tail i low high ∙ sym (ends-back h s b)))))))
       (λ b. or_l ahead (flagged fs i && back)
-      (leads_intro D (at ts i) (at hs i) x (cols.tail i low high ∙ sym (starts-ahead h s b) ∙ near.here)
+      (leads_intro D (at l.tails i) (at l.heads i) x (cols.tail i low high ∙ sym (starts-ahead h s b) ∙ near.here)
       (omega (arith, near.closer, ap D (cols.head i low high ∙ sym (ends-ahead h s b))))))
 
-  row_step : (x i : ℕ) → 1 ≤ i → i ≤ m → nearer_row ts hs fs D x i ≡ true → (s : Step) × (s.number ≡ i) × Nearer h c D x s
+  row_step : (x i : ℕ) → 1 ≤ i → i ≤ l.count → nearer_row l fs D x i ≡ true → (s : Step) × (s.number ≡ i) × Nearer h c D x s
   unfolding nearer_row
   row_step x i low high t =
-      let ahead = leads_nearer D (at ts i) (at hs i) x in
-      let back = leads_nearer D (at hs i) (at ts i) x in
+      let ahead = leads_nearer D (at l.tails i) (at l.heads i) x in
+      let back = leads_nearer D (at l.heads i) (at l.tails i) x in
       ⊎_elim
       (λ (y : ahead ≡ true).
       let s : Step = record { number = i; back = false } in
-      let p = leads_parts D (at ts i) (at hs i) x y in (
+      let p = leads_parts D (at l.tails i) (at l.heads i) x y in (
         s,
         refl,
         record {
@@ -77,7 +78,7 @@ module _ (h : Hall) (n m : ℕ) (ts hs : List ℕ) (fs : List Bool) (c : List �
       ))
       (λ (y : (flagged fs i && back) ≡ true).
       let s : Step = record { number = i; back = true } in
-      let p = leads_parts D (at hs i) (at ts i) x (and_r (flagged fs i) back y) in (
+      let p = leads_parts D (at l.heads i) (at l.tails i) x (and_r (flagged fs i) back y) in (
         s,
         refl,
         record {
@@ -88,24 +89,16 @@ module _ (h : Hall) (n m : ℕ) (ts hs : List ℕ) (fs : List Bool) (c : List �
       ))
       (or_cases ahead (flagged fs i && back) t)
 
-  module _ (small : n ≤ 64) (rg : Ranged h) (b : ℕ) (D_is : (x : ℕ) → 1 ≤ x → x ≤ h.n → FewestTo h c x b (some (D x)))
-      (first : List ℕ) (rows : RowsOver 0 m ts hs fs D first) where
+  module _ (small : h.n ≤ 64) (rg : Ranged h) (b : ℕ) (D_is : (x : ℕ) → 1 ≤ x → x ≤ h.n → FewestTo h c x b (some (D x))) (first : List ℕ) (rows : RowsOver 0 l fs D first) where
     first_lowest : (x : ℕ) → 1 ≤ x → x ≤ h.n → (x ≡ b → ⊥) → LowestStep h c D x (step_at h first x)
     unfolding step_at LowestOver
     first_lowest x low high ne =
         let near = some_nearer h rg c b D D_is x low high ne in
-        let over : (t : Step) → Nearer h c D x t → (0 < at first x) × (at first x ≤ t.number) × (nearer_row ts hs fs D x (at first x) ≡ true) =
-        (λ t n. rows.lowest x low (omega (arith, cols.junctions)) t.number (may_low h c t n.runs) (omega (arith, may_high h c t n.runs, cols.rows)) (step_row x t n)) in
+        let over : (t : Step) → Nearer h c D x t → (0 < at first x) × (at first x ≤ t.number) × (nearer_row l fs D x (at first x) ≡ true) =
+        (λ t n. rows.lowest x low (omega (arith, small)) t.number (may_low h c t n.runs) (omega (arith, may_high h c t n.runs, cols.rows)) (step_row x t n)) in
         let found = over near.0 near.1 in
         let s = row_step x (at first x) found.0 (omega (arith, found.1, may_high h c near.0 near.1.runs, cols.rows)) found.2 in
         record { nearer = nearer_is h c D x first s.0 s.2 s.1; least = λ t n. (over t n).1 }
 
-    pub guided : m ≤ 256 → Guided h c b D ts hs first
-    guided few = record {
-      size = omega (arith, cols.junctions);
-      few = omega (arith, cols.rows);
-      columns = record { junctions = refl; rows = refl; tail = λ i l u. cols.tail i l (omega (arith, cols.rows)); head = λ i l u. cols.head i l (omega (arith, cols.rows)) };
-      ranged = rg;
-      fewest = D_is;
-      lowest = first_lowest;
-    }
+    pub guided : Guided h c b D l first
+    guided = record { size = small; columns = cols; ranged = rg; fewest = D_is; lowest = first_lowest }

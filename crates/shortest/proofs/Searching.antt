@@ -16,21 +16,23 @@ use Rattle.dicuts.specs.Shores.{Ranged}
 use Rattle.routes.specs.Reached.{FewestTo, ArcsOf}
 use Rattle.routes.proofs.ReachStep.{rows_fewest}
 use Rattle.routes.proofs.Reached.{joins_steps}
-use Rattle.columns.specs.Columns.{flagged, Columns, Arcs}
+use Rattle.columns.specs.Columns.{flagged, Arcs}
+use Rattle.columns.specs.Lanes.{LanesOf}
+use Rattle.columns.specs.declared.Lanes.{Lanes}
 use Rattle.adjacency.proofs.Arcs.{arcs_ext}
 use Rattle.shortest.specs.Steps.{OpenedHall}
 
--- what the columns, the flags and their arcs say of a hall and a choice
-pub opened-hall : (h : Hall) (c : List ℕ) (n m : ℕ) (ts hs : List ℕ) (fs : List Bool) (sets : List ℕ) → n ≤ 64 → Columns h n m ts hs → Ranged h
-    → ((i : ℕ) → 1 ≤ i → i ≤ m → flagged fs i ≡ member i c) → Arcs h (flagged fs) sets → OpenedHall h c m ts hs fs sets
+-- what the lanes, the flags and their arcs say of a hall and a choice
+pub opened-hall : (h : Hall) (c : List ℕ) (l : Lanes) (fs : List Bool) (sets : List ℕ) → LanesOf h l → Ranged h
+    → ((i : ℕ) → 1 ≤ i → i ≤ l.count → flagged fs i ≡ member i c) → Arcs h (flagged fs) sets → OpenedHall h c l fs sets
 unfolding Arcs ArcsOf
-opened-hall h c n m ts hs fs sets small cols rg same are = record {
-  columns = record { junctions = refl; rows = cols.rows; tail = cols.tail; head = cols.head };
+opened-hall h c l fs sets lanes_of rg same are = record {
+  columns = record { junctions = refl; rows = lanes_of.rows; tail = lanes_of.tail; head = lanes_of.head };
   flags = same;
   arcs = (
     rg,
-    omega (arith, cols.junctions),
-    λ x l u. are x l u ∙ arcs_ext h (flagged fs) (λ i. member i c) (λ i p q. same i p (omega (arith, q, cols.rows))) x,
+    omega (arith, lanes_of.junctions, l.ends.size),
+    λ x low u. are x low u ∙ arcs_ext h (flagged fs) (λ i. member i c) (λ i p q. same i p (omega (arith, q, lanes_of.rows))) x,
   );
 }
 

@@ -7,44 +7,36 @@ ghost use Rattle.laws.specs.Lists.{at, in_front};
 ghost use Rattle.hall.specs.Hall.{Hall, joins};
 ghost use Rattle.routes.specs.Route.{Step, signed, all_signed, ShortestRoute};
 ghost use Rattle.routes.specs.Reached.{FewestTo, ArcsOf};
-ghost use Rattle.columns.specs.Columns.{Ends};
 ghost use Rattle.shortest.specs.Steps.{OpenedHall, Noted, RowsOver, Guided};
+
+use columns::Lanes;
 
 // Writes row k for the junction that it leads from, if it leads to one nearer the target.
 fn note(first: &mut [usize; 64], distances: &[u8; 64], k: usize, from: usize, to: usize)
     requires { (length first.old ≡ 64) × (1 ≤ from) × (from ≤ 64) × (1 ≤ to) × (to ≤ 64) }
     ensures { Noted (at distances.now) k from to first.old first.new }
 {
-    let near = digraph::distance(distances, to) as usize;
-    let far = digraph::distance(distances, from) as usize;
+    let near = usize::from(digraph::distance(distances, to));
+    let far = usize::from(digraph::distance(distances, from));
     if near + 1 == far {
         first[from - 1] = k;
     }
 }
 
-// For each junction the lowest row that leads from it to one nearer the target, where there is one: the rows are noted from the last to the first.
-fn first_rows<'a>(
-    m: usize,
-    tails: &'a [u8; 256],
-    heads: &'a [u8; 256],
-    chosen: &'a [bool; 256],
-    distances: &'a [u8; 64],
-    first: &mut [usize; 64],
-)
-    requires { Ends 64 m tails.now heads.now × (length first.old ≡ 64) }
-    ensures { RowsOver 0 m tails.now heads.now chosen.now (at distances.now) first.new }
+// For each junction the lowest row that leads from it to one nearer the target: the rows are noted from the last to the first.
+// Where none does, as at the target, the number is 1 and no route reads it: an Option would only be unwrapped at each step.
+fn first_rows(lanes: &Lanes, chosen: &[bool; 256], distances: &[u8; 64]) -> [usize; 64]
+    ensures { RowsOver 0 lanes.now chosen.now (at distances.now) result }
 {
-    let mut left = m;
-    while left > 0 {
-        let place = left - 1;
-        let tail = tails[place] as usize;
-        let head = heads[place] as usize;
-        note(first, distances, place + 1, tail, head);
-        if chosen[place] {
-            note(first, distances, place + 1, head, tail);
+    let mut first = [1; 64];
+    for k in (0..lanes.count).rev() {
+        let lane = lanes.lane(k);
+        note(&mut first, distances, k + 1, lane.tail + 1, lane.head + 1);
+        if chosen[k] {
+            note(&mut first, distances, k + 1, lane.head + 1, lane.tail + 1);
         }
-        left -= 1;
     }
+    first
 }
 
 // A row's number, with a minus where it is run backward.
@@ -52,46 +44,24 @@ fn with_sign(k: usize, back: bool) -> i32
     requires { (1 ≤ k) × (k ≤ 256) }
     ensures { result ≡ signed (record { number = k; back = back }) }
 {
-    if back {
-        return 0 - (k as i32);
-    }
-    k as i32
+    if back { -(k as i32) } else { k as i32 }
 }
 
-// The junction that row k leads to, run forward or backward.
-fn end_of<'a>(tails: &'a [u8; 256], heads: &'a [u8; 256], k: usize, back: bool) -> u8
-    requires { (1 ≤ k) × (k ≤ 256) }
-    ensures { result ≡ cond back (at tails.now k) (at heads.now k) }
+// Fills the list with the rows from a junction on, each the first of its junction.
+fn follow(lanes: &Lanes, first: &[usize; 64], from: usize, rows: &mut [i32])
+    requires { (h : Hall) × (c : List ℕ) × (b : ℕ) × (D : ℕ → ℕ) × Guided h c b D lanes.now first.now
+        × (1 ≤ from) × (from ≤ h.n) × (D from ≡ length rows.old) }
+    ensures { (h : Hall) (c : List ℕ) (b : ℕ) (D : ℕ → ℕ) → Guided h c b D lanes.now first.now
+        → 1 ≤ from → from ≤ h.n → D from ≡ length rows.old
+        → (ss : List Step) × ShortestRoute h c from b ss × (rows.new ≡ all_signed ss) }
 {
-    if back {
-        return tails[k - 1];
-    }
-    heads[k - 1]
-}
-
-// Writes so many rows from a junction on, each the first of its junction.
-fn follow<'a>(
-    tails: &'a [u8; 256],
-    heads: &'a [u8; 256],
-    first: &'a [usize; 64],
-    from: u8,
-    distance: usize,
-    rows: &mut [i32],
-)
-    requires { (distance ≤ length rows.old) × ((h : Hall) × (c : List ℕ) × (b : ℕ) × (D : ℕ → ℕ) × Guided h c b D tails.now heads.now first.now
-        × (1 ≤ from) × (from ≤ h.n) × (D from ≡ distance)) }
-    ensures { (h : Hall) (c : List ℕ) (b : ℕ) (D : ℕ → ℕ) → Guided h c b D tails.now heads.now first.now
-        → 1 ≤ from → from ≤ h.n → D from ≡ distance
-        → (ss : List Step) × ShortestRoute h c from b ss × (distance ≡ length ss) × (rows.new ≡ in_front (all_signed ss) rows.old) }
-{
-    let mut x = from;
-    let mut i: usize = 0;
-    while i < distance {
-        let k = first[(x as usize) - 1];
-        let back = tails[k - 1] != x;
-        rows[i] = with_sign(k, back);
-        x = end_of(tails, heads, k, back);
-        i += 1;
+    let mut here = from - 1;
+    for row in rows {
+        let k = first[here];
+        let lane = lanes.lane(k - 1);
+        let back = lane.tail != here;
+        *row = with_sign(k, back);
+        here = if back { lane.tail } else { lane.head };
     }
 }
 
@@ -101,33 +71,27 @@ fn distances_to(arcs: &[u64; 64], to: usize) -> [u8; 64]
     ensures { (h : Hall) (c : List ℕ) → ArcsOf h c (at arcs.now) → to ≤ h.n → joins h c ≡ true
         → (x : ℕ) → 1 ≤ x → x ≤ h.n → FewestTo h c x to (some (at result x)) × (at result x < 64) }
 {
-    let back = digraph::turned_round(arcs);
-    let mut distances = [0u8; 64];
-    digraph::reach(&back, to, &mut distances);
-    distances
+    digraph::reach(&digraph::turned_round(arcs), to).distances
 }
 
 // The route from a junction to another, into the first places of the list; how many rows it has.
-pub fn route<'a>(
-    m: usize,
-    tails: &'a [u8; 256],
-    heads: &'a [u8; 256],
-    chosen: &'a [bool; 256],
-    arcs: &'a [u64; 64],
+pub fn route(
+    lanes: &Lanes,
+    chosen: &[bool; 256],
+    arcs: &[u64; 64],
     from: usize,
     to: usize,
     rows: &mut [i32],
 ) -> usize
-    requires { Ends 64 m tails.now heads.now × (1 ≤ from) × (1 ≤ to) × (63 ≤ length rows.old)
-        × ((h : Hall) × (c : List ℕ) × OpenedHall h c m tails.now heads.now chosen.now arcs.now × (from ≤ h.n) × (to ≤ h.n) × (joins h c ≡ true)) }
-    ensures { (h : Hall) (c : List ℕ) → OpenedHall h c m tails.now heads.now chosen.now arcs.now
+    requires { (1 ≤ from) × (1 ≤ to) × (63 ≤ length rows.old)
+        × ((h : Hall) × (c : List ℕ) × OpenedHall h c lanes.now chosen.now arcs.now × (from ≤ h.n) × (to ≤ h.n) × (joins h c ≡ true)) }
+    ensures { (h : Hall) (c : List ℕ) → OpenedHall h c lanes.now chosen.now arcs.now
         → from ≤ h.n → to ≤ h.n → joins h c ≡ true
         → (ss : List Step) × ShortestRoute h c from to ss × (result ≡ length ss) × (rows.new ≡ in_front (all_signed ss) rows.old) }
 {
     let distances = distances_to(arcs, to);
-    let mut first = [1usize; 64];
-    first_rows(m, tails, heads, chosen, &distances, &mut first);
-    let distance = digraph::distance(&distances, from) as usize;
-    follow(tails, heads, &first, from as u8, distance, rows);
+    let first = first_rows(lanes, chosen, &distances);
+    let distance = usize::from(digraph::distance(&distances, from));
+    follow(lanes, &first, from, &mut rows[..distance]);
     distance
 }

@@ -1,66 +1,36 @@
 // A small hall as the bytes of a file: one block, or none where there are no rows.
-ghost use Rattle.std.specs.Prelude.{◌≤◌, ◌<◌};
+ghost use Rattle.std.specs.Prelude.{◌≡◌, ◌+◌, ◌≤◌, length};
+ghost use Rattle.arrayvec.specs.ArrayVec.{array_vec_len};
 
-use crate::Small;
+use crate::{Row, Small};
+use arrayvec::ArrayVec;
 
-pub fn length(rows: usize) -> usize
-    requires { rows ≤ 10 }
-    ensures { result ≤ 92 }
+fn append(file: &mut ArrayVec<u8, 92>, bytes: &[u8])
+    requires { array_vec_len file.old + length bytes.now ≤ 92 }
+    ensures { array_vec_len file.new ≡ array_vec_len file.old + length bytes.now }
 {
-    if rows == 0 { 4 } else { 12 + 8 * rows }
+    for byte in bytes {
+        file.push(*byte);
+    }
 }
 
-// The head of a file; its rows are still zeros.
-fn headed(n: usize, rows: usize) -> [u8; 92]
-    requires { (n ≤ 6) × (rows ≤ 10) }
-{
-    let mut file = [0u8; 92];
-    file[0] = n as u8;
-    if rows == 0 {
+// The eight bytes of a row; a fixed one has FFFFFFFF hexadecimal in place of a price.
+fn bytes_of_row(row: Row) -> [u8; 8] {
+    let [a, b, c, d] = row.price.map_or(u32::MAX, u32::from).to_le_bytes();
+    [row.from, 0, row.to, 0, a, b, c, d]
+}
+
+pub fn bytes_of(hall: &Small) -> ArrayVec<u8, 92> {
+    let rows = hall.rows.as_slice();
+    let mut file = ArrayVec::new();
+    append(&mut file, &[hall.n as u8, 0, 0, 0]);
+    if rows.is_empty() {
         return file;
     }
     file[2] = 1;
-    file[4] = 12;
-    file[8] = (8 * rows) as u8;
-    file
-}
-
-// The file with row i + 1; a fixed one has FFFFFFFF hexadecimal in place of a price.
-fn with_row(file: [u8; 92], i: usize, from: u8, to: u8, price: u8, fixed: bool) -> [u8; 92]
-    requires { i < 10 }
-{
-    let mut next = file;
-    let at = 12 + 8 * i;
-    next[at] = from;
-    next[at + 2] = to;
-    if fixed {
-        next[at + 4] = 255;
-        next[at + 5] = 255;
-        next[at + 6] = 255;
-        next[at + 7] = 255;
-    } else {
-        next[at + 4] = price;
-    }
-    next
-}
-
-pub fn bytes_of(hall: Small) -> [u8; 92]
-    requires { (hall.n ≤ 6) × (hall.count ≤ 10) }
-{
-    let count = hall.count;
-    let mut file = headed(hall.n, count);
-    let mut i: usize = 0;
-    while i < count {
-        let next = with_row(
-            file,
-            i,
-            hall.from[i],
-            hall.to[i],
-            hall.price[i],
-            hall.fixed[i],
-        );
-        file = next;
-        i += 1;
+    append(&mut file, &[12, 0, 0, 0, 8 * rows.len() as u8, 0, 0, 0]);
+    for row in rows {
+        append(&mut file, &bytes_of_row(*row));
     }
     file
 }

@@ -16,7 +16,9 @@ use Rattle.growth.specs.Robust.{Robust, RobustSet}
 use Rattle.growth.specs.Growth.{Known}
 use Rattle.hall.specs.Hall.{Hall}
 use Rattle.dicuts.specs.Shores.{Ranged, once, Joining, around}
-use Rattle.columns.specs.Columns.{Columns, Arcs, Neighbourhoods}
+use Rattle.columns.specs.Columns.{Arcs, Neighbourhoods}
+use Rattle.columns.specs.Lanes.{LanesOf}
+use Rattle.columns.specs.declared.Lanes.{Lanes}
 use Rattle.tight.specs.Solid.{SolidArcs}
 use Rattle.tight.proofs.Around.{robust_set-around}
 
@@ -71,7 +73,7 @@ found_known arcs solid sets n k found x l m u lu t =
     (λ f. (rw place at (found.each i (omega (arith, ltb-false i k e)) (ltb-true i n f))).holds_robust u lu t)
     (λ f. empty (found.after i (omega (arith, ltb-false i n f)) (omega arith))))
 
--- what `neighbourhood` finds in the columns of a hall
+-- what `neighbourhood` finds in the lanes of a hall
 pub robust_neighbourhood :
     (h : Hall) → Ranged h → (F : ℕ → Bool) → Joining h (once F) → h.n ≤ 64 → (arcs solid : List ℕ) → Arcs h F arcs → SolidArcs h F solid →
     (v : ℕ) → 1 ≤ v → v ≤ h.n → (set : ℕ) → RobustSet (at arcs) (at solid) v set → set ≡ around h (once F) v
@@ -80,11 +82,10 @@ robust_neighbourhood h ranged F joins small arcs solid arcs_are solid_are =
     robust_set-around h ranged F joins small (at arcs) (at solid) arcs_are solid_are
 
 pub found_all :
-    (n m : ℕ) (arcs solid sets ts hs : List ℕ) (k : ℕ) → n ≤ 64 → k ≡ 0 → RobustFrom arcs solid sets n k → (h : Hall) → Columns h n m ts hs → Ranged h →
+    (l : Lanes) (arcs solid sets : List ℕ) → RobustFrom arcs solid sets l.n 0 → (h : Hall) → LanesOf h l → Ranged h →
     (F : ℕ → Bool) → Joining h (once F) → Arcs h F arcs → SolidArcs h F solid → Neighbourhoods h F sets
 unfolding Neighbourhoods
-found_all n m arcs solid sets ts hs k small all found h cols ranged F joins arcs_are solid_are v l u =
-    let same = cols.junctions in
+found_all l arcs solid sets found h lanes_of ranged F joins arcs_are solid_are v low high =
     let e : suc (v - 1) ≡ v = omega arith in
-    robust_neighbourhood h ranged F joins (omega arith) arcs solid arcs_are solid_are v l u (get_or sets (v - 1) 0)
-    (rw e at (found.each (v - 1) (omega arith) (omega arith)))
+    robust_neighbourhood h ranged F joins (omega (arith, lanes_of.junctions, l.ends.size)) arcs solid arcs_are solid_are v low high (get_or sets (v - 1) 0)
+    (rw e at (found.each (v - 1) (omega arith) (omega (arith, lanes_of.junctions))))

@@ -1,25 +1,8 @@
 // Tight neighbourhoods: for each three arguments, a hall file, its rows such as 1,3 (or - for none) and a junction, prints what is found.
 #![tactic(auto)]
 
-ghost use Rattle.std.specs.Prelude.{◌≤◌};
-
 use std::io;
 use std::rt::Files;
-
-fn print_neighbourhood(
-    rt: &impl Print,
-    file: &[u8],
-    rows: [u32; 257],
-    count: usize,
-    junction: u32,
-) -> io::Result<()>
-    requires { count ≤ 257 }
-{
-    console::print_told(
-        rt,
-        neighbourhood::tight_neighbourhood(file, &rows[..count], junction),
-    )
-}
 
 fn look_around<R: Files + Print + Eprint>(
     rt: &R,
@@ -27,15 +10,14 @@ fn look_around<R: Files + Print + Eprint>(
     rows: &str,
     junction: &str,
 ) -> io::Result<()> {
-    let mut file = [0u8; 65_537];
-    match input::read_file(rt, name, &mut file) {
-        Ok(size) => {
-            let numbers = console::numbers_in(rows.as_bytes());
-            let junctions = console::numbers_in(junction.as_bytes()).list;
-            print_neighbourhood(rt, &file[..size], numbers.list, numbers.count, junctions[0])
-        }
-        Err(_) => Ok(()),
-    }
+    let mut room = [0; input::ROOM];
+    let Ok(file) = input::read_file(rt, name, &mut room) else {
+        return Ok(());
+    };
+    let choice = console::numbers_in(rows.as_bytes());
+    let junction = console::first_of(console::numbers_in(junction.as_bytes()).as_slice());
+    let reply = neighbourhood::tight_neighbourhood(file, choice.as_slice(), junction);
+    console::print_reply(rt, reply)
 }
 
 fn look_for_arguments<R: Files + Print + Eprint>(rt: &R, words: &[String]) -> io::Result<()> {

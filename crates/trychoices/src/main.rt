@@ -3,15 +3,13 @@
 
 mod comparing;
 
-ghost use Rattle.std.specs.Prelude.{◌≤◌};
-
 use comparing::Outcome;
-use smallhalls::{Small, drawing};
-use std::io;
-use std::num::wrapping_add_u64;
+use smallhalls::drawing::{Random, Size};
+use std::{fmt, io};
 
 // Halls whose plan is the first choice, halls rightly refused as unjoined or for a cut of fixed rows, and halls where planner and search differ.
-#[derive(Clone, Copy)]
+// `tryroutes` counts other outcomes: a tally by name for both would be no plainer.
+#[derive(Clone, Copy, Default)]
 struct Tally {
     same: u64,
     unjoined: u64,
@@ -19,88 +17,92 @@ struct Tally {
     different: u64,
 }
 
-const NONE: Tally = Tally {
-    same: 0,
-    unjoined: 0,
-    fixed: 0,
-    different: 0,
-};
-
-fn counted(tally: Tally, hall: Small) -> Tally
-    requires { (hall.n ≤ 6) × (hall.count ≤ 10) }
-{
-    let mut next = tally;
-    let outcome = comparing::compared(hall);
-    match outcome {
-        Outcome::Same => next.same = wrapping_add_u64(next.same, 1),
-        Outcome::Unjoined => next.unjoined = wrapping_add_u64(next.unjoined, 1),
-        Outcome::Fixed => next.fixed = wrapping_add_u64(next.fixed, 1),
-        Outcome::Different => next.different = wrapping_add_u64(next.different, 1),
+impl Tally {
+    fn count(&mut self, outcome: Outcome) {
+        let counter = match outcome {
+            Outcome::Same => &mut self.same,
+            Outcome::Unjoined => &mut self.unjoined,
+            Outcome::Fixed => &mut self.fixed,
+            Outcome::Different => &mut self.different,
+        };
+        *counter = counter.wrapping_add(1);
     }
-    next
 }
 
-fn print_tally(rt: &impl Print, tally: Tally) -> io::Result<()> {
-    console::print_item(rt, " SAME ", tally.same)?;
-    console::print_item(rt, " UNJOINED ", tally.unjoined)?;
-    console::print_item(rt, " FIXED ", tally.fixed)?;
-    console::print_item(rt, " DIFFERENT ", tally.different)?;
-    println!(rt;)
+impl fmt::Display for Tally {
+    fn fmt<W: fmt::Write>(&self, f: &mut fmt::Formatter<W>) -> fmt::Result {
+        let Tally {
+            same,
+            unjoined,
+            fixed,
+            different,
+        } = *self;
+        write!(
+            f,
+            "SAME {same} UNJOINED {unjoined} FIXED {fixed} DIFFERENT {different}"
+        )
+    }
 }
 
-// Every hall of n junctions and a number of rows, fixed or of prices below a bound.
-fn of_size(tally: Tally, n: usize, rows: usize, prices: u64) -> Tally
-    requires { (1 ≤ n) × (n ≤ 6) × (rows ≤ 10) × (1 ≤ prices) × (prices ≤ 255) }
-{
-    let mut next = tally;
-    let mut number: u64 = 0;
-    while number < 1_000_000_000 {
-        let numbered = drawing::of_number(n, rows, prices, number);
-        if numbered.left != 0 {
-            return next;
-        }
-        let hall = numbered.hall;
-        next = counted(next, hall);
-        number += 1;
+// Every hall of a size.
+fn count_size(tally: &mut Tally, size: Size) {
+    for hall in (0..u64::MAX).map_while(|number| size.hall(number)) {
+        tally.count(comparing::compared(&hall));
     }
-    next
 }
 
-fn try_all(rt: &impl Print, n: usize, rows: usize, prices: u64) -> io::Result<()>
-    requires { (1 ≤ n) × (n ≤ 6) × (rows ≤ 10) × (1 ≤ prices) × (prices ≤ 255) }
-{
-    let mut tally = counted(NONE, smallhalls::without_rows(n));
-    let mut count: usize = 1;
-    while count <= rows {
-        tally = of_size(tally, n, count, prices);
-        count += 1;
+// Every hall of a size, and of as many junctions with fewer rows.
+fn try_all(rt: &impl Print, most: Size) -> io::Result<()> {
+    let Size { n, rows, prices } = most;
+    let mut tally = Tally::default();
+    for rows in 0..rows + 1 {
+        count_size(&mut tally, Size { n, rows, prices });
     }
-    console::print_item(rt, "EVERY JUNCTIONS ", n as u64)?;
-    console::print_item(rt, " ROWS 0 TO ", rows as u64)?;
-    console::print_item(rt, " PRICES 0 TO ", prices - 1)?;
-    print!(rt; " OR FIXED")?;
-    print_tally(rt, tally)
+    let dearest = prices - 1;
+    println!(rt; "EVERY JUNCTIONS {n} ROWS 0 TO {rows} PRICES 0 TO {dearest} OR FIXED {tally}")
 }
 
-fn try_random(rt: &impl Print, halls: u64, start: u64) -> io::Result<()> {
-    let mut tally = NONE;
-    let mut seed = start;
-    let mut k: u64 = 0;
-    while k < halls {
-        let drawn = drawing::random(seed);
-        let hall = drawn.hall;
-        tally = counted(tally, hall);
-        seed = drawn.seed;
-        k += 1;
+fn try_random(rt: &impl Print, halls: u64, seed: u64) -> io::Result<()> {
+    let mut tally = Tally::default();
+    let mut random = Random { seed };
+    for _ in 0..halls {
+        tally.count(comparing::compared(&random.hall()));
     }
-    console::print_item(rt, "RANDOM HALLS ", halls)?;
-    print_tally(rt, tally)
+    println!(rt; "RANDOM HALLS {halls} {tally}")
 }
 
 fn main(rt: HostRuntime) -> io::Result<()> {
-    try_all(&rt, 1, 5, 3)?;
-    try_all(&rt, 2, 5, 3)?;
-    try_all(&rt, 3, 4, 3)?;
-    try_all(&rt, 4, 4, 2)?;
+    try_all(
+        &rt,
+        Size {
+            n: 1,
+            rows: 5,
+            prices: 3,
+        },
+    )?;
+    try_all(
+        &rt,
+        Size {
+            n: 2,
+            rows: 5,
+            prices: 3,
+        },
+    )?;
+    try_all(
+        &rt,
+        Size {
+            n: 3,
+            rows: 4,
+            prices: 3,
+        },
+    )?;
+    try_all(
+        &rt,
+        Size {
+            n: 4,
+            rows: 4,
+            prices: 2,
+        },
+    )?;
     try_random(&rt, 200_000, 1)
 }

@@ -4,101 +4,112 @@
 
 ghost use Rattle.std.specs.Prelude.{◌≤◌};
 
-use answers::Told;
 use planning::Planned;
+use refusals::Kind;
 use std::io;
 use std::rt::Files;
-use tries::Tried;
+use tries::Room;
 
-fn same_reply(a: Planned, b: Planned) -> bool {
-    let ours = a.refusal;
-    let theirs = b.refusal;
-    let kinds = refusals::number_of(ours) == refusals::number_of(theirs);
-    let rows = refusals::row_of(ours) == refusals::row_of(theirs);
-    let filled = (a.chosen == b.chosen) & (a.cuts == b.cuts) & (a.levels == b.levels);
-    kinds & rows & filled & (a.total == b.total)
-}
-
-fn same(a: Tried, b: Tried) -> bool {
-    let reply = a.planned;
-    let other_reply = b.planned;
-    let lists = a.lists;
-    let other_lists = b.lists;
-    same_reply(reply, other_reply) & tries::same_after(lists, other_lists, 0, 0, 0)
-}
-
-fn print_reply(rt: &impl Print, planned: Planned) -> io::Result<()> {
-    let refusal = planned.refusal;
-    if refusal.is_none() {
-        return println!(rt; "PLANNED");
-    }
-    console::print_told(rt, Told::refused(refusal))
+fn print_reply(rt: &impl Print, reply: Result<Planned, Kind>) -> io::Result<()> {
+    console::print_reply(rt, reply.map(|_| "PLANNED"))
 }
 
 // The plan with so many places for cuts, as structs and in two number lists.
-fn try_both(rt: &impl Print, name: &str, lent: &str, file: &[u8], room: usize) -> io::Result<()>
-    requires { room ≤ 126 }
+fn try_both(rt: &impl Print, name: &str, file: &[u8], cuts: usize) -> io::Result<()>
+    requires { cuts ≤ 126 }
 {
-    print!(rt; "{name}{lent}")?;
-    let core = tries::plan(file, 256, room, room, 64);
-    let lanes = lending::plan(file, room);
-    if same(core, lanes) {
-        print!(rt; " SAME ")?;
+    let room = Room {
+        rows: 256,
+        shores: cuts,
+        weights: cuts,
+        levels: 64,
+    };
+    let lanes = lending::plan(file, cuts);
+    let told = if lanes == tries::plan(file, room) {
+        "SAME"
     } else {
-        print!(rt; " DIFFERENT ")?;
-    }
-    print_reply(rt, lanes.planned)
+        "DIFFERENT"
+    };
+    print!(rt; "{name}, {cuts} cuts: {told} ")?;
+    print_reply(rt, lanes.reply)
 }
 
 // The plan into number lists of which one is too short, or all.
-fn try_short(
-    rt: &impl Print,
-    name: &str,
-    lent: &str,
-    file: &[u8],
-    rows: usize,
-    shores: usize,
-    weights: usize,
-    levels: usize,
-) -> io::Result<()>
-    requires { (rows ≤ 256) × (shores ≤ 126) × (weights ≤ 126) × (levels ≤ 64) }
-{
-    print!(rt; "{name}{lent}")?;
-    let tried = tries::plan(file, rows, shores, weights, levels);
-    if tries::kept_after(tried.lists, 0, 0, 0) {
-        print!(rt; " UNTOUCHED ")?;
+fn try_short(rt: &impl Print, name: &str, lent: &str, file: &[u8], room: Room) -> io::Result<()> {
+    let tried = tries::plan(file, room);
+    let told = if tried.lists.kept_after(0, 0, 0) {
+        "UNTOUCHED"
     } else {
-        print!(rt; " TOUCHED ")?;
-    }
-    print_reply(rt, tried.planned)
-}
-
-fn try_lanes(rt: &impl Print, name: &str, file: &[u8]) -> io::Result<()> {
-    try_both(rt, name, ", 0 cuts:", file, 0)?;
-    try_both(rt, name, ", 124 cuts:", file, 124)?;
-    try_both(rt, name, ", 125 cuts:", file, 125)?;
-    try_both(rt, name, ", 126 cuts:", file, 126)
-}
-
-fn try_core(rt: &impl Print, name: &str, file: &[u8]) -> io::Result<()> {
-    try_short(rt, name, ", 255 rows:", file, 255, 125, 125, 64)?;
-    try_short(rt, name, ", 124 shores:", file, 256, 124, 125, 64)?;
-    try_short(rt, name, ", 124 weights:", file, 256, 125, 124, 64)?;
-    try_short(rt, name, ", 63 levels:", file, 256, 125, 125, 63)?;
-    try_short(rt, name, ", no places:", file, 0, 0, 0, 0)
+        "TOUCHED"
+    };
+    print!(rt; "{name}, {lent}: {told} ")?;
+    print_reply(rt, tried.reply)
 }
 
 fn try_file(rt: &impl Print, name: &str, file: &[u8]) -> io::Result<()> {
-    try_lanes(rt, name, file)?;
-    try_core(rt, name, file)
+    try_both(rt, name, file, 0)?;
+    try_both(rt, name, file, 124)?;
+    try_both(rt, name, file, 125)?;
+    try_both(rt, name, file, 126)?;
+    let short = [
+        (
+            "255 rows",
+            Room {
+                rows: 255,
+                shores: 125,
+                weights: 125,
+                levels: 64,
+            },
+        ),
+        (
+            "124 shores",
+            Room {
+                rows: 256,
+                shores: 124,
+                weights: 125,
+                levels: 64,
+            },
+        ),
+        (
+            "124 weights",
+            Room {
+                rows: 256,
+                shores: 125,
+                weights: 124,
+                levels: 64,
+            },
+        ),
+        (
+            "63 levels",
+            Room {
+                rows: 256,
+                shores: 125,
+                weights: 125,
+                levels: 63,
+            },
+        ),
+        (
+            "no places",
+            Room {
+                rows: 0,
+                shores: 0,
+                weights: 0,
+                levels: 0,
+            },
+        ),
+    ];
+    for (lent, room) in short {
+        try_short(rt, name, lent, file, room)?;
+    }
+    Ok(())
 }
 
 fn try_argument<R: Files + Print + Eprint>(rt: &R, name: &str) -> io::Result<()> {
-    let mut file = [0u8; 65_537];
-    match input::read_file(rt, name, &mut file) {
-        Ok(size) => try_file(rt, name, &file[..size]),
-        Err(_) => Ok(()),
-    }
+    let mut room = [0; input::ROOM];
+    let Ok(file) = input::read_file(rt, name, &mut room) else {
+        return Ok(());
+    };
+    try_file(rt, name, file)
 }
 
 fn main(rt: HostRuntime) -> io::Result<()> {

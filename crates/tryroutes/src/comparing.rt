@@ -1,11 +1,11 @@
 // One call of the route, held to the sequences of steps.
 ghost use Rattle.std.specs.Prelude.{◌≤◌};
 
-use crate::walks;
 use crate::walks::Asked;
-use routing::{Routed, Way};
+use refusals::Kind;
+use routing::Way;
 
-#[derive(Clone, Copy)]
+#[derive(Clone, Copy, PartialEq, Eq, Debug)]
 pub enum Outcome {
     Route,
     Misses,
@@ -13,76 +13,58 @@ pub enum Outcome {
     Different,
 }
 
-// The number of the refusal that is due with so many places lent, 0 for none.
-fn due(asked: Asked, room: usize) -> u32 {
-    let hall = asked.hall;
-    let from = asked.from as usize;
-    let to = asked.to as usize;
+// The refusal that is due with so many places lent, if any.
+fn due(asked: &Asked<'_>, room: usize) -> Option<Kind> {
+    let junctions = 1..=asked.hall.n;
     if room < 63 {
-        return 1;
+        return Some(Kind::ListShort);
     }
-    if (from == 0) | (hall.n < from) | (to == 0) | (hall.n < to) {
-        return 11;
+    if !junctions.contains(&usize::from(asked.from))
+        || !junctions.contains(&usize::from(asked.to))
+    {
+        return Some(Kind::RouteEnd);
     }
-    0
+    None
 }
 
 // Whether the list begins with the first of the shortest sequences, of so many steps, and the other places are as they were.
-fn is_route(asked: Asked, rows: &[i32; 64], steps: usize) -> bool
-    requires { (asked.hall.n ≤ 6) × (asked.hall.count ≤ 10) }
-{
-    let first = walks::first(asked);
-    if !first.leads | (first.length != steps) {
-        return false;
-    }
-    walks::begins(asked, first, rows) & tries::signed_kept_after(rows, steps)
+fn is_route(asked: &Asked<'_>, rows: &[i32; 64], steps: usize) -> bool {
+    asked.first().is_some_and(|first| {
+        first.length == steps
+            && asked.begins(first, rows)
+            && tries::kept_after(rows, steps, tries::SIGNED)
+    })
 }
 
 // A reply beside what is due, and the list after it.
-fn judged(asked: Asked, due: u32, routed: Routed, rows: &[i32; 64]) -> Outcome
-    requires { (asked.hall.n ≤ 6) × (asked.hall.count ≤ 10) }
-{
-    let refusal = routed.refusal;
-    let way = routed.way;
-    let missed = asked.missed;
-    if refusals::number_of(refusal) != due {
-        return Outcome::Different;
+fn judged(
+    asked: &Asked<'_>,
+    due: Option<Kind>,
+    reply: Result<Way, Kind>,
+    rows: &[i32; 64],
+) -> Outcome {
+    let untouched = tries::kept_after(rows, 0, tries::SIGNED);
+    match (reply, due, asked.missed) {
+        (Err(refusal), Some(due), _) if refusal == due && untouched => Outcome::Refused,
+        (Ok(Way::Misses(shore)), None, Some(missed)) if shore.0 == missed && untouched => {
+            Outcome::Misses
+        }
+        (Ok(Way::Route(steps)), None, None) if is_route(asked, rows, steps) => Outcome::Route,
+        _ => Outcome::Different,
     }
-    match way {
-        Way::Nothing => {
-            if (due != 0) & tries::signed_kept_after(rows, 0) {
-                return Outcome::Refused;
-            }
-        }
-        Way::Misses(shore) => {
-            if (due == 0)
-                & (missed != 0)
-                & (shore.0 == missed)
-                & tries::signed_kept_after(rows, 0)
-            {
-                return Outcome::Misses;
-            }
-        }
-        Way::Route(steps) => {
-            if (due == 0) & (missed == 0) & is_route(asked, rows, steps) {
-                return Outcome::Route;
-            }
-        }
-    }
-    Outcome::Different
 }
 
 // The call with so many places lent of a list that has a mark in every place.
-pub fn compared(file: &[u8], choice: &[u32], asked: Asked, room: usize) -> Outcome
-    requires { (asked.hall.n ≤ 6) × (asked.hall.count ≤ 10) × (room ≤ 64) }
+pub fn compared(file: &[u8], choice: &[u32], asked: &Asked<'_>, room: usize) -> Outcome
+    requires { room ≤ 64 }
 {
-    let mut rows = tries::signed_marks();
-    let routed = routing::route(
+    let mut rows = [tries::SIGNED; 64];
+    let reply = routing::route(
         file,
         choice,
-        asked.from as u32,
-        asked.to as u32,
+        u32::from(asked.from),
+        u32::from(asked.to),
         &mut rows[..room],
     );
-    judged(asked, due(asked, room), routed, &rows)
+    judged(asked, due(asked, room), reply, &rows)
 }

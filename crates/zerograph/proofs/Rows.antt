@@ -11,6 +11,7 @@ use lib.ListN.{get_or, length, length-set, replicate, length-replicate, get_or-r
 use borrow.Author.Tests.{eqb-true, eq-eqb}
 use Rattle.laws.specs.Lists.{at}
 use Rattle.laws.specs.Finite.{any_below}
+use Rattle.laws.proofs.Lists.{at-suc}
 use Rattle.laws.proofs.Booleans.{and_l, and_r, and_i, bool_ext}
 use Rattle.junctions.specs.Sets.{holds}
 use Rattle.junctions.proofs.Sets.{none_holds}
@@ -22,6 +23,10 @@ use Rattle.potentials.specs.Potential.{gap}
 use Rattle.potentials.specs.ZeroGraph.{opens, closes}
 use Rattle.potentials.proofs.Arcs.{opens_true, true_opens, closes_true, true_closes}
 use Rattle.zerograph.specs.Zero.{RowArcs}
+
+eqb_back : (x a : ℕ) → 1 ≤ x → eqb (x - 1) a ≡ eqb x (suc a)
+eqb_back x a low =
+    bool_ext (eqb (x - 1) a) (eqb x (suc a)) (λ e. eq-eqb x (suc a) (omega (arith, eqb-true (x - 1) a e))) (λ e. eq-eqb (x - 1) a (omega (arith, eqb-true x (suc a) e)))
 
 module _ (h : Hall) (n m : ℕ) (tails heads costs : List ℕ) (movable chosen : List Bool) (potential : List ℕ)
     (cols : Columns h n m tails heads) (k a b : ℕ) (less : k < m) (tail_is : suc a ≡ get_or tails k 0) (head_is : suc b ≡ get_or heads k 0) where
@@ -44,10 +49,10 @@ module _ (h : Hall) (n m : ℕ) (tails heads costs : List ℕ) (movable chosen :
   chosen_here = ap (λ (i : ℕ). get_or chosen i false) (place_back k)
 
   pub cost_here : at costs (suc k) ≡ get_or costs k 0
-  cost_here = ap (λ (i : ℕ). get_or costs i 0) (place_back k)
+  cost_here = at-suc costs k
 
   pub level_at : (x b : ℕ) → x ≡ suc b → at potential x ≡ get_or potential b 0
-  level_at x b e = ap (λ (i : ℕ). get_or potential (i - 1) 0) e ∙ ap (λ (i : ℕ). get_or potential i 0) (place_back b)
+  level_at x b e = ap (at potential) e ∙ at-suc potential b
 
   -- the levels of the row's ends
   pub tail_level : at potential (row h (suc k)).from ≡ get_or potential a 0
@@ -65,14 +70,14 @@ module _ (h : Hall) (n m : ℕ) (tails heads costs : List ℕ) (movable chosen :
   may_open = get_or movable k false && eqb (get_or potential b 0) (get_or potential a 0 + get_or costs k 0)
 
   pub opens_here :
-      (x y : ℕ) → 1 ≤ x → (eqb (x - 1) b && (may_open && eqb y (suc a))) ≡ opens h (flagged movable) (at costs) (at potential) x y (suc k)
-  opens_here x y lx = bool_ext (eqb (x - 1) b && (may_open && eqb y (suc a))) (opens h (flagged movable) (at costs) (at potential) x y (suc k)) there back
+      (x y : ℕ) → (eqb x (suc b) && (may_open && eqb y (suc a))) ≡ opens h (flagged movable) (at costs) (at potential) x y (suc k)
+  opens_here x y = bool_ext (eqb x (suc b) && (may_open && eqb y (suc a))) (opens h (flagged movable) (at costs) (at potential) x y (suc k)) there back
     where
-      there : (eqb (x - 1) b && (may_open && eqb y (suc a))) ≡ true → opens h (flagged movable) (at costs) (at potential) x y (suc k) ≡ true
+      there : (eqb x (suc b) && (may_open && eqb y (suc a))) ≡ true → opens h (flagged movable) (at costs) (at potential) x y (suc k) ≡ true
       there e =
-          let rest = and_r (eqb (x - 1) b) (may_open && eqb y (suc a)) e in
+          let rest = and_r (eqb x (suc b)) (may_open && eqb y (suc a)) e in
           let may = and_l may_open (eqb y (suc a)) rest in
-          let x_is : x ≡ suc b = omega (arith, eqb-true (x - 1) b (and_l (eqb (x - 1) b) (may_open && eqb y (suc a)) e)) in
+          let x_is : x ≡ suc b = eqb-true x (suc b) (and_l (eqb x (suc b)) (may_open && eqb y (suc a)) e) in
           let y_is : y ≡ suc a = eqb-true y (suc a) (and_r may_open (eqb y (suc a)) rest) in
           let rise = eqb-true (get_or potential b 0) (get_or potential a 0 + get_or costs k 0) (and_r (get_or movable k false) (eqb (get_or potential b 0) (get_or potential a 0 + get_or costs k 0)) may) in
           true_opens h (flagged movable) (at costs) (at potential) (flagged chosen) x y (suc k)
@@ -85,12 +90,12 @@ module _ (h : Hall) (n m : ℕ) (tails heads costs : List ℕ) (movable chosen :
             to_is = to_here ∙ sym x_is;
           })
 
-      back : opens h (flagged movable) (at costs) (at potential) x y (suc k) ≡ true → (eqb (x - 1) b && (may_open && eqb y (suc a))) ≡ true
+      back : opens h (flagged movable) (at costs) (at potential) x y (suc k) ≡ true → (eqb x (suc b) && (may_open && eqb y (suc a))) ≡ true
       back e =
           let o = opens_true h (flagged movable) (at costs) (at potential) (flagged chosen) x y (suc k) (omega arith) high e in
           let x_is : x ≡ suc b = sym o.to_is ∙ to_here in
           let y_is : y ≡ suc a = sym o.from_is ∙ from_here in
-          and_i (eqb (x - 1) b) (may_open && eqb y (suc a)) (eq-eqb (x - 1) b (omega (arith, x_is)))
+          and_i (eqb x (suc b)) (may_open && eqb y (suc a)) (eq-eqb x (suc b) x_is)
           (and_i may_open (eqb y (suc a))
           (and_i (get_or movable k false) (eqb (get_or potential b 0) (get_or potential a 0 + get_or costs k 0)) (sym free_here ∙ o.free)
           (eq-eqb (get_or potential b 0) (get_or potential a 0 + get_or costs k 0) (omega (arith, o.rise, level_at x b x_is, level_at y a y_is, cost_here))))
@@ -100,14 +105,14 @@ module _ (h : Hall) (n m : ℕ) (tails heads costs : List ℕ) (movable chosen :
   abbrev pub may_close : Bool
   may_close = get_or movable k false && get_or chosen k false
 
-  pub closes_here : (x y : ℕ) → 1 ≤ x → (eqb (x - 1) a && (may_close && eqb y (suc b))) ≡ closes h (flagged movable) (flagged chosen) x y (suc k)
-  closes_here x y lx = bool_ext (eqb (x - 1) a && (may_close && eqb y (suc b))) (closes h (flagged movable) (flagged chosen) x y (suc k)) there back
+  pub closes_here : (x y : ℕ) → (eqb x (suc a) && (may_close && eqb y (suc b))) ≡ closes h (flagged movable) (flagged chosen) x y (suc k)
+  closes_here x y = bool_ext (eqb x (suc a) && (may_close && eqb y (suc b))) (closes h (flagged movable) (flagged chosen) x y (suc k)) there back
     where
-      there : (eqb (x - 1) a && (may_close && eqb y (suc b))) ≡ true → closes h (flagged movable) (flagged chosen) x y (suc k) ≡ true
+      there : (eqb x (suc a) && (may_close && eqb y (suc b))) ≡ true → closes h (flagged movable) (flagged chosen) x y (suc k) ≡ true
       there e =
-          let rest = and_r (eqb (x - 1) a) (may_close && eqb y (suc b)) e in
+          let rest = and_r (eqb x (suc a)) (may_close && eqb y (suc b)) e in
           let may = and_l may_close (eqb y (suc b)) rest in
-          let x_is : x ≡ suc a = omega (arith, eqb-true (x - 1) a (and_l (eqb (x - 1) a) (may_close && eqb y (suc b)) e)) in
+          let x_is : x ≡ suc a = eqb-true x (suc a) (and_l (eqb x (suc a)) (may_close && eqb y (suc b)) e) in
           let y_is : y ≡ suc b = eqb-true y (suc b) (and_r may_close (eqb y (suc b)) rest) in
           true_closes h (flagged movable) (at costs) (at potential) (flagged chosen) x y (suc k)
           (record {
@@ -119,12 +124,12 @@ module _ (h : Hall) (n m : ℕ) (tails heads costs : List ℕ) (movable chosen :
             to_is = to_here ∙ sym y_is;
           })
 
-      back : closes h (flagged movable) (flagged chosen) x y (suc k) ≡ true → (eqb (x - 1) a && (may_close && eqb y (suc b))) ≡ true
+      back : closes h (flagged movable) (flagged chosen) x y (suc k) ≡ true → (eqb x (suc a) && (may_close && eqb y (suc b))) ≡ true
       back e =
           let o = closes_true h (flagged movable) (at costs) (at potential) (flagged chosen) x y (suc k) (omega arith) high e in
           let x_is : x ≡ suc a = sym o.from_is ∙ from_here in
           let y_is : y ≡ suc b = sym o.to_is ∙ to_here in
-          and_i (eqb (x - 1) a) (may_close && eqb y (suc b)) (eq-eqb (x - 1) a (omega (arith, x_is)))
+          and_i (eqb x (suc a)) (may_close && eqb y (suc b)) (eq-eqb x (suc a) x_is)
           (and_i may_close (eqb y (suc b))
           (and_i (get_or movable k false) (get_or chosen k false) (sym free_here ∙ o.free) (sym chosen_here ∙ o.chosen))
           (eq-eqb y (suc b) y_is))
@@ -145,8 +150,8 @@ module _ (h : Hall) (n m : ℕ) (tails heads costs : List ℕ) (movable chosen :
             rw (add-one k)
             (added-holds first a closed (omega (arith, size)) (x - 1) y
             ∙ ap₂ ◌||◌ (added-holds sets b opened (omega (arith, before.size)) (x - 1) y
-            ∙ ap₂ ◌||◌ (before.arc x y lx ux ly) (ap (λ (t : Bool). eqb (x - 1) b && t) (open_is y ly) ∙ opens_here x y lx))
-            (ap (λ (t : Bool). eqb (x - 1) a && t) (close_is y ly) ∙ closes_here x y lx)
+            ∙ ap₂ ◌||◌ (before.arc x y lx ux ly) (ap₂ ◌&&◌ (eqb_back x b lx) (open_is y ly) ∙ opens_here x y))
+            (ap₂ ◌&&◌ (eqb_back x a lx) (close_is y ly) ∙ closes_here x y)
             ∙ or_assoc (any_below k (λ i. opens h (flagged movable) (at costs) (at potential) x y (suc i) || closes h (flagged movable) (flagged chosen) x y (suc i)))
             (opens h (flagged movable) (at costs) (at potential) x y (suc k)) (closes h (flagged movable) (flagged chosen) x y (suc k)));
       }

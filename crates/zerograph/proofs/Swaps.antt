@@ -21,8 +21,10 @@ use Rattle.junctions.proofs.Adding.{added, added-holds}
 use Rattle.hall.specs.Hall.{Hall, count}
 use Rattle.dicuts.specs.Shores.{around, once}
 use Rattle.dicuts.proofs.Shores.{around_lt}
-use Rattle.columns.proofs.Ranged.{columns_ranged}
-use Rattle.columns.specs.Columns.{Ends, Columns, Neighbourhoods}
+use Rattle.columns.proofs.Ranged.{lanes_ranged}
+use Rattle.columns.specs.Columns.{Neighbourhoods}
+use Rattle.columns.specs.Lanes.{LanesOf}
+use Rattle.columns.specs.declared.Lanes.{Lanes}
 use Rattle.potentials.specs.ZeroGraph.{opens, closes, swaps, zero_arc, zero_arcs}
 use Rattle.potentials.proofs.Arcs.{opens_true, closes_true}
 use Rattle.zerograph.specs.Zero.{RowArcs, ZeroGraph}
@@ -73,16 +75,16 @@ module _ (h : Hall) (movable : ℕ → Bool) (c : ℕ → ℕ) (potential : List
             ∙ rw (ne_eqb (z - 1) x (λ q. omega arith)) (or-false (holds (at sets z) y) ∙ before.left z y l (omega arith) b k);
       }
 
-  module _ (n m : ℕ) (tails heads : List ℕ) (ends : Ends n m tails heads) (cols : Columns h n m tails heads) where
+  module _ (lanes : Lanes) (cols : LanesOf h lanes) where
     -- rows make no arcs beyond the hall
     beyond : (x y : ℕ) → (h.n < x) ⊎ (h.n < y) → any_below (count h) (λ k. opens h movable c (at potential) x y (suc k) || closes h movable F x y (suc k)) ≡ false
     beyond x y far =
         not_true_false (any_below (count h) (λ k. opens h movable c (at potential) x y (suc k) || closes h movable F x y (suc k)))
         (λ t.
         let w = any_found (count h) (λ k. opens h movable c (at potential) x y (suc k) || closes h movable F x y (suc k)) t in
-        let less : w.0 < m = omega (arith, w.1, cols.rows) in
-        let some : 1 ≤ n = omega (arith, ends.tail_low w.0 less, ends.tail_high w.0 less) in
-        let rg = columns_ranged h n m tails heads some ends cols in
+        let less : w.0 < lanes.count = omega (arith, w.1, cols.rows) in
+        let some : 1 ≤ lanes.n = omega (arith, lanes.ends.tail_low w.0 less, lanes.ends.tail_high w.0 less) in
+        let rg = lanes_ranged h lanes some cols in
         let from = rg.from_high (suc w.0) (omega arith) w.1 in
         let to = rg.to_high (suc w.0) (omega arith) w.1 in
         ⊎_elim
@@ -102,7 +104,7 @@ module _ (h : Hall) (movable : ℕ → Bool) (c : ℕ → ℕ) (potential : List
         (and_false_l (holds (around h (once F) x) y) (eqb (at potential x) (at potential y)) (high_holds h.n (around h (once F) x) y (around_lt h (once F) x) far))
 
     pub swapped_all :
-        (x : ℕ) (sets : List ℕ) → x ≤ n → n ≤ x → Swapped h movable c (at potential) F x sets → ZeroGraph h movable c (at potential) F sets
+        (x : ℕ) (sets : List ℕ) → x ≤ lanes.n → lanes.n ≤ x → Swapped h movable c (at potential) F x sets → ZeroGraph h movable c (at potential) F sets
     unfolding zero_arcs
     swapped_all x sets low high all =
         record {

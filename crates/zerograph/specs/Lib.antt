@@ -1,2 +1,2 @@
-pub mod Low
+pub mod Rows
 pub mod Zero

@@ -2,79 +2,76 @@
 // The arcs are those of `zero_arcs` in `potentials`.
 #![tactic(auto)]
 
-ghost use Rattle.std.specs.Prelude.{◌≡◌, ℕ, ◌+◌, ◌^◌, ◌<◌, eqb};
+ghost use Rattle.std.specs.Prelude.{◌≡◌, false, ◌&&◌, ℕ, ◌+◌, ◌-◌, ◌<◌, eqb, get_or};
 ghost use Rattle.laws.specs.Lists.{at};
 ghost use Rattle.hall.specs.Hall.{Hall};
-ghost use Rattle.columns.specs.Columns.{flagged, Ends, Columns, Neighbourhoods};
-ghost use Rattle.zerograph.specs.Low.{Low};
+ghost use Rattle.columns.specs.Columns.{flagged, Neighbourhoods};
+ghost use Rattle.columns.specs.Lanes.{LanesOf};
+ghost use Rattle.columns.specs.Low.{Low};
+ghost use Rattle.zerograph.specs.Rows.{RowsOf};
 ghost use Rattle.zerograph.specs.Zero.{RowArcs, ZeroGraph};
 
-use junctions::{lone, place};
-use leveltable::{fill_levels, same_level};
+use columns::{Costs, Lane, Lanes};
+use junctions::lone;
+use leveltable::LevelTable;
 
-// A row of this cost, from the low potential to the high one, has no gap.
-pub fn no_gap(low: u64, cost: u64, high: u64) -> bool
-    requires { low + cost < 2 ^ 64 }
-    ensures { result ≡ eqb high (low + cost) }
-{
-    high == low + cost
+// What a choice is repaired over: the lanes with their costs, the rows that may be opened and closed, and a potential.
+#[derive(Clone, Copy)]
+pub struct Network<'a> {
+    pub lanes: &'a Lanes,
+    pub costs: &'a Costs,
+    pub movable: &'a [bool; 256],
+    pub potential: &'a [u64; 64],
+    ghost low: { Low potential.now },
+}
+
+impl<'a> Network<'a> {
+    // The gap of the row at place k, whose lane is given: by how much the potential of its tail and its cost are over the potential of its head.
+    pub fn gap(&self, k: usize, lane: Lane) -> u64
+        requires { (k < 256) × (lane.tail < 64) × (lane.head < 64) }
+        ensures { result ≡ get_or self.now.potential.now lane.tail 0 + get_or self.now.costs.now.rows k 0 - get_or self.now.potential.now lane.head 0 }
+    {
+        let paid = self.potential[lane.tail] + self.costs.rows[k];
+        paid.saturating_sub(self.potential[lane.head])
+    }
+
+    // Whether the potential of the row's head is just that of its tail and its cost.
+    pub fn no_gap(&self, k: usize, lane: Lane) -> bool
+        requires { (k < 256) × (lane.tail < 64) × (lane.head < 64) }
+        ensures { result ≡ eqb (get_or self.now.potential.now lane.head 0) (get_or self.now.potential.now lane.tail 0 + get_or self.now.costs.now.rows k 0) }
+    {
+        self.potential[lane.head] == self.potential[lane.tail] + self.costs.rows[k]
+    }
 }
 
 // The arcs that rows make: a movable row without a gap from its head to its tail, a chosen movable one from its tail to its head.
-pub fn row_arcs<'a>(
-    m: usize,
-    tails: &'a [u8; 256],
-    heads: &'a [u8; 256],
-    costs: &'a [u64; 256],
-    movable: &'a [bool; 256],
-    chosen: &'a [bool; 256],
-    potential: &'a [u64; 64],
-) -> [u64; 64]
-    requires { Ends 64 m tails.now heads.now × Low costs.now × Low potential.now }
-    ensures { (h : Hall) (n : ℕ) → Columns h n m tails.now heads.now →
-        RowArcs h (flagged movable.now) (at costs.now) (at potential.now) (flagged chosen.now) m result }
+pub fn row_arcs(network: &Network<'_>, chosen: &[bool; 256]) -> [u64; 64]
+    ensures { (h : Hall) (n : ℕ) → RowsOf h n network.now.lanes.now →
+        RowArcs h (flagged network.now.movable.now) (at network.now.costs.now.rows) (at network.now.potential.now)
+        (flagged chosen.now) network.now.lanes.now.count result }
 {
     let mut arcs = [0u64; 64];
-    let mut k: usize = 0;
-    while k < m {
-        let tail = place(tails[k]);
-        let head = place(heads[k]);
-        let opens = no_gap(potential[tail], costs[k], potential[head]);
-        let opened = lone(movable[k] & opens, tail);
-        arcs[head] = arcs[head] | opened;
-        let closed = lone(movable[k] & chosen[k], head);
-        arcs[tail] = arcs[tail] | closed;
-        k += 1;
+    for k in 0..network.lanes.count {
+        let lane = network.lanes.lane(k);
+        let opens = network.movable[k] & network.no_gap(k, lane);
+        arcs[lane.head] |= lone(opens, lane.tail);
+        let closes = network.movable[k] & chosen[k];
+        arcs[lane.tail] |= lone(closes, lane.head);
     }
     arcs
 }
 
 // The zero graph: the arcs of rows, and of swaps within tight neighbourhoods at the same potential.
-pub fn zero_graph<'a>(
-    n: usize,
-    m: usize,
-    tails: &'a [u8; 256],
-    heads: &'a [u8; 256],
-    costs: &'a [u64; 256],
-    movable: &'a [bool; 256],
-    chosen: &'a [bool; 256],
-    potential: &'a [u64; 64],
-    around: &'a [u64; 64],
-) -> [u64; 64]
-    requires { Ends n m tails.now heads.now × Low costs.now × Low potential.now }
-    ensures { (h : Hall) → Columns h n m tails.now heads.now →
+pub fn zero_graph(network: &Network<'_>, chosen: &[bool; 256], around: &[u64; 64]) -> [u64; 64]
+    ensures { (h : Hall) → LanesOf h network.now.lanes.now →
         Neighbourhoods h (flagged chosen.now) around.now →
-        ZeroGraph h (flagged movable.now) (at costs.now) (at potential.now) (flagged chosen.now) result }
+        ZeroGraph h (flagged network.now.movable.now) (at network.now.costs.now.rows) (at network.now.potential.now)
+        (flagged chosen.now) result }
 {
-    let mut arcs = row_arcs(m, tails, heads, costs, movable, chosen, potential);
-    let mut values = [0u64; 128];
-    let mut sets = [0u64; 128];
-    fill_levels(n, potential, &mut values, &mut sets);
-    let mut x: usize = 0;
-    while x < n {
-        let swaps = same_level(around[x], potential, &values, &sets, potential[x]);
-        arcs[x] = arcs[x] | swaps;
-        x += 1;
+    let mut arcs = row_arcs(network, chosen);
+    let table = LevelTable::of(network.lanes.n, network.potential);
+    for x in 0..network.lanes.n {
+        arcs[x] |= table.same_level(around[x], network.potential, network.potential[x]);
     }
     arcs
 }

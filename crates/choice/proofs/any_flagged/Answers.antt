@@ -1,21 +1,13 @@
--- The goals that `choice::any_flagged` leaves open, by the lemmas and the invariant of its loop. Assumes nothing.
-use mathlib.Core.Bool.{Bool, false, ◌||◌}
-use mathlib.Core.Path.{◌≡◌, refl, ap, ◌∙◌}
-use Prim.Native.Nat.{ℕ}
-use native.Mathlib.Numerals.{add-one}
-use native.Mathlib.Omega.{arith}
-use lib.ListN.{get_or}
-use Rattle.laws.specs.Finite.{any_below}
+-- `choice::any_flagged` asks each flag. Assumes nothing.
+use mathlib.Core.Bool.{Bool}
+use mathlib.Core.Path.{◌∙◌}
+use Rattle.std.proofs.Common.{rules, tests}
+use Rattle.std.proofs.lemmas.Iterator.{YieldsList-from_slice}
+use Rattle.std.proofs.lemmas.Iterator.Search.{any_from_yields_List}
+use Rattle.choice.proofs.Marked.{list_any_below}
 use Rattle.choice.proofs.any_flagged.Goals as goal
 
-pub loop-k-init : goal.loop-k-init
-unfolding any_below
-loop-k-init c = (omega arith, refl)
-
-pub loop-k-preserved : goal.loop-k-preserved
-unfolding any_below
-loop-k-preserved c = (omega arith, rw (add-one c.loop-k.k) (ap (λ (b : Bool). b || get_or c.args.flags.now c.loop-k.k false) c.loop-k.invariant.1))
-
 pub returns : goal.returns
-returns c = let all : c.loop-k.k ≡ 256 = omega arith in
-    c.loop-k.invariant.1 ∙ ap (λ (k : ℕ). any_below k (λ j. get_or c.args.flags.now j false)) all
+returns c = let flags = c.args.flags.now in
+    any_from_yields_List (λ (b : Bool). b) _ _ c.any.result c.any.ensures.ran (YieldsList-from_slice flags cc) (λ x b q k. search (rules, tests))
+    ∙ rw c.told-flags at (list_any_below flags)

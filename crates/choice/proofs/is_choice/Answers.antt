@@ -4,14 +4,14 @@ use Rattle.choice.proofs.Ascent.{ascends_wider}
 use Rattle.choice.proofs.Marked.{ascending_choice, unascending_choice}
 use Rattle.choice.proofs.is_choice.Goals as goal
 
-pub returns-then-not-ascends : goal.returns-then-not-ascends
-returns-then-not-ascends c = λ h rows marks. let a = c.args in
-    sym (unascending_choice h a.fixed.now marks a.rows rows a.numbers.now (sym c.ascends.ensures ∙ c.if-not-ascends.true))
-
 pub none_flagged-requires : goal.none_flagged-requires
-none_flagged-requires c = ascends_wider 1 c.args.rows 256 c.args.numbers.now c.requires (sym c.ascends.ensures ∙ c.if-not-ascends.false)
+none_flagged-requires c = ascends_wider 1 c.args.rows 256 c.args.numbers.now c.requires (sym c.ascends.ensures ∙ c.if-ascends.true)
 
-pub returns : goal.returns
-returns c = λ h rows marks. let a = c.args in
+pub returns-then-ascends : goal.returns-then-ascends
+returns-then-ascends c = λ h rows marks. let a = c.args in
     c.none_flagged.ensures
-    ∙ sym (ascending_choice h a.fixed.now marks a.rows rows a.numbers.now (sym c.ascends.ensures ∙ c.if-not-ascends.false))
+    ∙ sym (ascending_choice h a.fixed.now marks a.rows rows a.numbers.now (sym c.ascends.ensures ∙ c.if-ascends.true))
+
+pub returns-else-ascends : goal.returns-else-ascends
+returns-else-ascends c = λ h rows marks. let a = c.args in
+    c.if-ascends.false ∙ sym (unascending_choice h a.fixed.now marks a.rows rows a.numbers.now (sym c.ascends.ensures ∙ c.if-ascends.false))

@@ -1,6 +1,6 @@
 -- The goals that `choice::none_flagged` leaves open, by the lemmas and the invariant of its loop. Assumes nothing.
 use mathlib.Core.Bool.{not}
-use mathlib.Core.Path.{refl, sym, ap, ◌∙◌}
+use mathlib.Core.Path.{sym, ap, ◌∙◌}
 use Prim.Native.Nat.{◌≤◌}
 use native.Mathlib.Omega.{arith}
 use lib.ListN.{get_or}
@@ -8,32 +8,26 @@ use Rattle.choice.proofs.Ascent.{ascends_at}
 use Rattle.choice.proofs.Marked.{all_more, all_fail, all_end}
 use Rattle.choice.proofs.none_flagged.Invariants.{free}
 use Rattle.choice.proofs.none_flagged.Goals as goal
-use Rattle.choice.proofs.none_flagged.Goals.{In-loop-k}
+use Rattle.choice.proofs.none_flagged.Goals.{In-loop-number}
 
 -- the number at hand is one of 1 to 256
-in_range : (c : In-loop-k) → let number = get_or c.args.numbers.now c.loop-k.k 0 in (1 ≤ number) × (number ≤ 256)
-in_range c = ascends_at 1 256 c.args.numbers.now c.loop-k.k c.requires c.loop-k-test.true
+in_range : (c : In-loop-number) → let number = get_or c.args.numbers.now c.loop-number.number-index 0 in (1 ≤ number) × (number ≤ 256)
+in_range c = ascends_at 1 256 c.args.numbers.now c.loop-number.number-index c.requires c.loop-number-test.true
 
-pub loop-k-init : goal.loop-k-init
-loop-k-init c = (omega arith, refl)
+pub overflow_sub-number : goal.overflow_sub-number
+overflow_sub-number c = (in_range (goal.at.overflow_sub-number c).In-loop-number).0
 
-pub overflow_cast-i : goal.overflow_cast-i
-overflow_cast-i c = let r = in_range (goal.at.overflow_cast-i c).In-loop-k in omega (arith, r.1)
+pub bounds-flags-number : goal.bounds-flags-number
+bounds-flags-number c = let r = in_range (goal.at.bounds-flags-number c).In-loop-number in omega (arith, r.0, r.1)
 
-pub overflow_sub-i : goal.overflow_sub-i
-overflow_sub-i c = (in_range (goal.at.overflow_sub-i c).In-loop-k).0
+pub returns-then-flags-number : goal.returns-then-flags-number
+returns-then-flags-number c = let a = c.args in
+    sym (all_fail (free a.flags.now) a.numbers.now c.loop-number.number-index c.loop-number-test.true (ap not c.if-flags-number.true)) ∙ c.loop-number.invariant
 
-pub bounds-flags-i : goal.bounds-flags-i
-bounds-flags-i c = let r = in_range (goal.at.bounds-flags-i c).In-loop-k in omega (arith, r.0, r.1)
-
-pub returns-then-flags-i : goal.returns-then-flags-i
-returns-then-flags-i c = let a = c.args in
-    sym (all_fail (free a.flags.now) a.numbers.now c.loop-k.k c.loop-k-test.true (ap not c.if-flags-i.true)) ∙ c.loop-k.invariant.1
-
-pub loop-k-preserved : goal.loop-k-preserved
-loop-k-preserved c = let a = c.args in
-    (omega arith, sym (all_more (free a.flags.now) a.numbers.now c.loop-k.k c.loop-k-test.true (ap not c.if-flags-i.false)) ∙ c.loop-k.invariant.1)
+pub loop-number-preserved : goal.loop-number-preserved
+loop-number-preserved c = let a = c.args in
+    sym (all_more (free a.flags.now) a.numbers.now c.loop-number.number-index c.loop-number-test.true (ap not c.if-flags-number.false)) ∙ c.loop-number.invariant
 
 pub returns : goal.returns
 returns c = let a = c.args in
-    sym (all_end (free a.flags.now) a.numbers.now c.loop-k.k c.loop-k-test.false) ∙ c.loop-k.invariant.1
+    sym (all_end (free a.flags.now) a.numbers.now c.loop-number.number-index c.loop-number-test.false) ∙ c.loop-number.invariant

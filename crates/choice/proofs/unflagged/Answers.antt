@@ -1,13 +1,7 @@
--- The goals that `choice::unflagged` leaves open, by the lemmas and the invariant of its loop. Assumes nothing.
-use native.Mathlib.Omega.{arith}
-use Rattle.choice.proofs.Marked.{opposite_none, opposite_more}
+-- `choice::unflagged` maps each flag to its opposite. Assumes nothing.
+use mathlib.Core.Bool.{false}
+use Rattle.std.proofs.Common.{rules, tests}
 use Rattle.choice.proofs.unflagged.Goals as goal
 
-pub loop-k-init : goal.loop-k-init
-loop-k-init c = (omega arith, opposite_none c.args.flags.now)
-
-pub loop-k-preserved : goal.loop-k-preserved
-loop-k-preserved c = (omega arith, opposite_more c.args.flags.now c.loop-k.k c.loop-k.others (omega arith) c.loop-k.invariant.1)
-
 pub returns : goal.returns
-returns c = let l = c.loop-k in (l.invariant.1.len, λ j h. l.invariant.1.at j (omega arith))
+returns c = (c.map.ensures.items.long, λ k less. let called = (c.map.ensures.items.at k false false less).2 in search (rules, tests))

@@ -1,11 +1,10 @@
--- `write_cuts` writes the first cuts of the two lists into the lent list, one a turn. The invariant: the first places hold the cuts written so far, the others are as before. The measure is how many cuts are left. Assumes nothing.
-use mathlib.Core.Path.{◌≡◌}
-use Prim.Native.Nat.{◌≤◌, ◌-◌}
-use Rattle.cutlist.proofs.Front.{front}
+-- `write_cuts` writes the cuts into the lent list, one a turn. The invariant, place by place: the first places hold the cuts written so far, the others are as before. Assumes nothing.
+use Rattle.std.proofs.Common.{◌≡◌, ℕ, ◌<◌, ◌≤◌, get_or}
+use Rattle.cutlist.specs.Cuts.{lent_cut}
 use Rattle.cutlist.proofs.write_cuts.Given as goal
 
 abbrev pub invariant-loop-k : goal.invariant-loop-k
-invariant-loop-k l = (l.k ≤ l.count) × (l.cuts ≡ front l.lists l.k l.initial.cuts)
-
-abbrev pub decreases-loop-k : goal.decreases-loop-k
-decreases-loop-k l = l.count - l.k
+invariant-loop-k l = record {
+  written : (i : ℕ) → i < l.k → get_or l.cuts i (lent_cut 0 0) ≡ lent_cut (get_or l.shores i 0) (get_or l.weights i 0);
+  rest : (i : ℕ) → l.k ≤ i → get_or l.cuts i (lent_cut 0 0) ≡ get_or l.initial.cuts i (lent_cut 0 0);
+}

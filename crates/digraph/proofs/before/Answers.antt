@@ -1,33 +1,22 @@
--- The goals that `digraph::before` leaves open, by what is one arc nearer and the invariant of its loop. Assumes nothing.
-use mathlib.Core.Path.{sym, ◌∙◌}
-use Prim.Native.Nat.{◌≤◌}
-use native.Mathlib.Omega.{arith}
+-- `digraph::before` gives the first junction that passes the test, and there is one. Assumes nothing.
+use Rattle.std.proofs.Common.{ℕ, Bool, true, false, ◌≡◌, rules, tests}
+use Rattle.std.proofs.lemmas.Iterator.{first_from_Range}
 use Rattle.laws.specs.Lists.{at}
-use Rattle.digraph.proofs.Backward.{test_before, ahead_next}
+use Rattle.digraph.specs.Layers.{before_test}
+use Rattle.digraph.proofs.Backward.{FirstBefore, first_is_some, first_is_before}
 use Rattle.digraph.proofs.before.Goals as goal
-use Rattle.digraph.proofs.before.Goals.{At-loop-x}
+use Rattle.digraph.proofs.before.Goals.{After-find}
 
--- x is a junction
-in-hall : (c : At-loop-x) → c.loop-x.x ≤ 64
-in-hall c = let ahead = c.loop-x.invariant.1 in omega (arith, ahead.later, ahead.there.to_last)
+found : (c : After-find) → FirstBefore 64 (at c.args.adjacency.now) (at c.args.distances.now) c.args.y c.find.result
+found c = let passes : ℕ → Bool = before_test (at c.args.adjacency.now) (at c.args.distances.now) c.args.y in record {
+  first = first_from_Range _ _ _ _ (λ x. passes x ≡ true) (λ x. passes x ≡ false) c.find.ensures.ran
+      (λ x q k. search (rules, tests)) (λ x q k. search (rules, tests));
+}
 
-pub loop-x-init : goal.loop-x-init
-loop-x-init c = (omega arith, record { at = c.requires.2.0; there = c.requires.2.1; later = c.requires.2.1.from_one })
-
-pub is_before-requires : goal.is_before-requires
-is_before-requires c = (c.requires.0, c.requires.1, c.loop-x.invariant.0, in-hall (goal.at.is_before-requires c).At-loop-x)
-
-pub overflow_add-x : goal.overflow_add-x
-overflow_add-x c = record { fits = omega (arith, in-hall (goal.at.overflow_add-x c).At-loop-x) }
-
-pub loop-x-smaller : goal.loop-x-smaller
-loop-x-smaller c = omega (arith, in-hall (goal.at.loop-x-smaller c).At-loop-x)
-
-pub loop-x-preserved : goal.loop-x-preserved
-loop-x-preserved c = let l = c.loop-x in let a = c.args in
-    (omega arith, ahead_next 64 (at a.adjacency.now) (at a.distances.now) a.y l.x (sym c.is_before.ensures ∙ c.loop-x-test.true) l.invariant.1)
+pub unwrap-requires : goal.unwrap-requires
+unwrap-requires c = let a = c.args in
+    first_is_some 64 (at a.adjacency.now) (at a.distances.now) a.y _ (found (goal.at.unwrap-requires c).After-find) c.requires.2
 
 pub returns : goal.returns
-returns c = let l = c.loop-x in let a = c.args in
-    test_before (at a.adjacency.now) (at a.distances.now) a.y l.x 64 l.invariant.0 (in-hall (goal.at.returns c).At-loop-x)
-    (sym c.is_before.ensures ∙ c.loop-x-test.false)
+returns c = let a = c.args in
+    first_is_before 64 (at a.adjacency.now) (at a.distances.now) a.y _ (rw c.unwrap.ensures at (found (goal.at.returns c).After-find))

@@ -1,32 +1,15 @@
--- The goals that `digraph::mark` leaves open, by the lowest junction of the rest and the invariant of its loop. Assumes nothing.
-use mathlib.Core.Path.{refl, ◌∙◌}
-use native.Mathlib.Omega.{arith}
-use lib.Count.{trailing_le}
+-- The goals that `digraph::mark` leaves open, by the place taken and the invariant of its loop. Assumes nothing.
+use mathlib.Core.Path.{◌∙◌}
 use lib.ListN.{length-set}
-use Rattle.junctions.proofs.Bits.{trailing_lt}
-use Rattle.junctions.proofs.Words.{clear_less}
 use Rattle.digraph.proofs.Rest.{mark_step, mark_end}
 use Rattle.digraph.proofs.mark.Goals as goal
 
-pub loop-rest-init : goal.loop-rest-init
-loop-rest-init c = (omega arith, c.requires, λ j l m. refl)
-
-pub overflow_cast-place : goal.overflow_cast-place
-overflow_cast-place c = record { fits = omega (arith, trailing_le 64 c.loop-rest.rest) }
-
-pub bounds-distances-place : goal.bounds-distances-place
-bounds-distances-place c = trailing_lt 64 c.loop-rest.rest (omega arith) c.loop-rest.invariant.0
-
-pub loop-rest-smaller : goal.loop-rest-smaller
-loop-rest-smaller c = clear_less c.loop-rest.rest (omega arith)
-
-pub loop-rest-preserved : goal.loop-rest-preserved
-loop-rest-preserved c = let l = c.loop-rest in let a = c.args in (
-  omega (arith, clear_less l.rest (omega arith)),
-  length-set l.distances _ a.d ∙ l.invariant.1,
-  mark_step a.distances.now l.distances a.set l.rest (λ _. a.d) l.invariant.1 (omega arith) l.invariant.0 l.invariant.2,
+pub loop-place-preserved : goal.loop-place-preserved
+loop-place-preserved c = let l = c.loop-place in let a = c.args in (
+  length-set l.distances _ a.d ∙ l.invariant.0,
+  mark_step a.distances.now l.distances a.set l.place-iterator.left _ _ (λ _. a.d) l.invariant.0 c.in-Some.ensures.steps l.invariant.1,
 )
 
 pub returns : goal.returns
-returns c = let l = c.loop-rest in let a = c.args in
-    mark_end a.distances.now l.distances a.set l.rest (λ _. a.d) l.invariant.1 (omega arith) l.invariant.2
+returns c = let l = c.loop-place in let a = c.args in
+    mark_end a.distances.now l.distances a.set _ (λ _. a.d) l.invariant.0 c.in-None.ensures.steps.0 l.invariant.1

@@ -6,18 +6,14 @@ use Rattle.digraph.proofs.Rounding.{round_start, round_step, round_end}
 use Rattle.digraph.proofs.turned_round.Goals as goal
 
 pub loop-x-init : goal.loop-x-init
-loop-x-init c = (omega arith, refl, round_start (at c.args.adjacency.now))
-
-pub loop-x-smaller : goal.loop-x-smaller
-loop-x-smaller c = omega arith
+loop-x-init c = (refl, round_start (at c.args.adjacency.now))
 
 pub loop-x-preserved : goal.loop-x-preserved
 loop-x-preserved c = let l = c.loop-x in let a = c.args in let put = c.put_into.ensures in (
-  omega arith,
   put.size,
-  round_step (at a.adjacency.now) l.back _ l.x l.invariant.0 (rw c.arcs-into.ensures at put) l.invariant.2,
+  round_step (at a.adjacency.now) l.back _ l.x (omega arith) (rw c.arcs-into.ensures at put) l.invariant.1,
 )
 
 pub returns : goal.returns
 returns c = let l = c.loop-x in let a = c.args in
-    round_end (at a.adjacency.now) l.back l.x (omega arith) l.invariant.2
+    round_end (at a.adjacency.now) l.back l.x (omega arith) l.invariant.1

@@ -1,9 +1,6 @@
--- `exhaustive::total_of` ends, reads no place outside its lists, and its sum fits. The invariant: i is at most the row count, that is at most 10, and the sum at most i times 255. The measure is count - i. Assumes nothing.
-use Prim.Native.Nat.{◌*◌, ◌≤◌, ◌-◌}
+-- `exhaustive::total_of`: the sum is at most 255 for each row gone over. Assumes nothing.
+use Rattle.std.proofs.Common.{◌*◌, ◌≤◌}
 use Rattle.exhaustive.proofs.total_of.Given as goal
 
 abbrev pub invariant-loop-i : goal.invariant-loop-i
-invariant-loop-i l = (l.i ≤ l.count) × (l.count ≤ 10) × (l.total ≤ l.i * 255)
-
-abbrev pub decreases-loop-i : goal.decreases-loop-i
-decreases-loop-i l = l.count - l.i
+invariant-loop-i l = l.total ≤ l.i * 255

@@ -4,15 +4,22 @@ use Prim.Native.Nat.{ℕ, ◌≤◌, ◌<◌}
 use lib.ListN.{length}
 use Rattle.laws.specs.Lists.{at}
 use Rattle.hall.specs.Hall.{Hall}
-use Rattle.columns.specs.Columns.{flagged, Columns}
+use Rattle.columns.specs.Columns.{flagged}
+use Rattle.zerograph.specs.Rows.{RowsOf}
 use Rattle.zerograph.specs.Zero.{ZeroGraph}
 use Rattle.flip.proofs.Flips.{Walking}
 use Rattle.flip.proofs.flip.Given as goal
 
 abbrev pub invariant-loop-y : goal.invariant-loop-y
-invariant-loop-y l = (1 ≤ l.y) × (l.y ≤ 64) × (at l.distances l.y < 64) × (length l.flags ≡ 256)
-    × ((h : Hall) (n : ℕ) → Columns h n l.m l.tails l.heads → ZeroGraph h (flagged l.movable) (at l.costs) (at l.potential) (flagged l.chosen) l.adjacency → l.target ≤ h.n →
-    (l.y ≤ h.n) × Walking h (flagged l.movable) (at l.costs) (at l.potential) (flagged l.chosen) (at l.distances) l.target l.y (flagged l.flags))
+invariant-loop-y l = record {
+  from_one : 1 ≤ l.y;
+  to_last : l.y ≤ 64;
+  reached : at l.distances l.y < 64;
+  size : length l.flags ≡ 256;
+  walked : (h : Hall) (n : ℕ) → RowsOf h n l.network.lanes.now →
+      ZeroGraph h (flagged l.network.movable.now) (at l.network.costs.now.rows) (at l.network.potential.now) (flagged l.chosen) l.adjacency → l.target ≤ h.n →
+      (l.y ≤ h.n) × Walking h (flagged l.network.movable.now) (at l.network.costs.now.rows) (at l.network.potential.now) (flagged l.chosen) (at l.distances) l.target l.y (flagged l.flags);
+}
 
 abbrev pub decreases-loop-y : goal.decreases-loop-y
 decreases-loop-y l = at l.distances l.y

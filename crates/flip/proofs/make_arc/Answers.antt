@@ -1,21 +1,16 @@
 -- Make_arc makes the arc that it finds. Assumes nothing.
-use mathlib.Core.Path.{◌≡◌}
-use native.Mathlib.Omega.{arith}
-use lib.ListN.{length}
-use borrow.Author.Rules.{rules}
-use Rattle.laws.specs.Lists.{at}
-use Rattle.columns.specs.Columns.{flagged}
+use Rattle.std.proofs.Common.{◌≡◌, length, arith, rules}
 use Rattle.flip.proofs.Flips.{made_open, made_close, made_swap}
 use Rattle.flip.proofs.make_arc.Goals as goal
 
-pub returns-then-open-m : goal.returns-then-open-m
-returns-then-open-m c = let a = c.args in let size : length a.flags ≡ 256 = search rules in let r = c.opening-open.result in
-    λ h n cols. made_open h (flagged a.movable.now) (at a.costs.now) (at a.potential.now) (flagged a.chosen.now) a.x a.y a.m cols.rows a.flags r (c.opening-open.ensures h n cols) c.if-open-m.true (omega (arith, size, c.requires.0.few, c.if-open-m.true))
+pub returns-in-Some : goal.returns-in-Some
+returns-in-Some c = let size : length c.args.flags ≡ 256 = search rules in let few = c.args.network.now.lanes.now.ends.few in
+    λ h n cols. made_open h _ _ _ _ c.args.x c.args.y _ cols.rows c.args.flags c.in-Some.open (rw c.in-Some.is at (c.opening.ensures.first h n cols)) (omega (arith, rw c.in-Some.is at c.opening.ensures.inside))
 
-pub returns-then-close-m : goal.returns-then-close-m
-returns-then-close-m c = let a = c.args in let size : length a.flags ≡ 256 = search rules in let r = c.closing-close.result in
-    λ h n cols. made_close h (flagged a.movable.now) (at a.costs.now) (at a.potential.now) (flagged a.chosen.now) a.x a.y a.m cols.rows a.flags r (c.closing-close.ensures h n cols) c.if-close-m.true (omega (arith, size, c.requires.0.few, c.if-close-m.true))
+pub returns-in-Some-closing : goal.returns-in-Some-closing
+returns-in-Some-closing c = let size : length c.args.flags ≡ 256 = search rules in let few = c.args.network.now.lanes.now.ends.few in
+    λ h n cols. made_close h _ _ _ _ c.args.x c.args.y _ cols.rows c.args.flags c.in-Some-closing.close (rw c.in-Some-closing.is at (c.closing.ensures.first h n cols)) (omega (arith, rw c.in-Some-closing.is at c.closing.ensures.inside))
 
-pub returns : goal.returns
-returns c = let a = c.args in
-    λ h n cols. made_swap h (flagged a.movable.now) (at a.costs.now) (at a.potential.now) (flagged a.chosen.now) a.x a.y a.m cols.rows a.flags c.opening-open.result c.closing-close.result (c.opening-open.ensures h n cols) c.if-open-m.false (c.closing-close.ensures h n cols) c.if-close-m.false
+pub returns-in_default-closing : goal.returns-in_default-closing
+returns-in_default-closing c = λ h n cols.
+    made_swap h _ _ _ _ c.args.x c.args.y _ cols.rows c.args.flags (rw c.in_default.is at (c.opening.ensures.first h n cols)) (rw c.in_default-closing.is at (c.closing.ensures.first h n cols))

@@ -12,9 +12,9 @@ use Rattle.growth.proofs.Meetings.{less}
 use Rattle.growth.proofs.neighbourhood.Given as goal
 
 abbrev pub invariant-loop-met : goal.invariant-loop-met
-invariant-loop-met l = (l.set < 2 ^ 64) × ((y : ℕ) → 1 ≤ y → holds l.met y ≡ true → holds l.set y ≡ false)
-    × (Known (at l.arcs) (at l.solid) (at l.known) → Growing (at l.arcs) (at l.solid) l.v (bit_or l.set l.met) l.met l.once)
-    × (l.met ≡ 0 → (all : ℕ) × KeptApart (at l.arcs) l.set (less l.once l.set) all)
+invariant-loop-met l = (l.grown.set < 2 ^ 64) × ((y : ℕ) → 1 ≤ y → holds l.met y ≡ true → holds l.grown.set y ≡ false)
+    × (Known (at l.arcs) (at l.solid) (at l.known) → Growing (at l.arcs) (at l.solid) l.v (bit_or l.grown.set l.met) l.met l.grown.once)
+    × (l.met ≡ 0 → (all : ℕ) × KeptApart (at l.arcs) l.grown.set (less l.grown.once l.grown.set) all)
 
 abbrev pub decreases-loop-met : goal.decreases-loop-met
-decreases-loop-met l = 2 ^ 64 - l.set
+decreases-loop-met l = 2 ^ 64 - l.grown.set

@@ -17,4 +17,4 @@ moved true k i less low =
 moved false k i less low = let e : (0 * 2 ^ k) % 2 ^ 64 ≡ 0 = omega arith in ap (λ (s : ℕ). holds s i) e ∙ none_holds i
 
 pub returns : goal.returns
-returns c = λ i l. moved c.args.there c.args.place i c.requires l
+returns c = rw c.from.ensures (λ i l. moved c.args.there c.args.place i c.requires l)

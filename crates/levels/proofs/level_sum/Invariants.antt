@@ -1,8 +1,5 @@
--- `level_sum` adds up what the shores of the first places weigh that hold the junction. The invariant: the sum is that of the first k places, and at most k times the largest weight. The measure is how many places are left. Assumes nothing.
-use mathlib.Core.Path.{◌≡◌}
-use mathlib.Core.Bool.{cond}
-use mathlib.Core.List.{List}
-use Prim.Native.Nat.{ℕ, ◌≤◌, ◌-◌, ◌*◌}
+-- `level_sum` adds up what the shores weigh that hold the junction. The invariant: the sum is that of the cuts so far, and at most so many times the largest weight. Assumes nothing.
+use Rattle.std.proofs.Common.{◌≡◌, ◌*◌, ◌≤◌, length, List, ℕ, cond}
 use Rattle.laws.specs.Finite.{sum_below}
 use Rattle.junctions.specs.Sets.{holds}
 use Rattle.shorelist.specs.Listed.{place_of}
@@ -12,8 +9,8 @@ use Rattle.levels.proofs.level_sum.Given as goal
 abbrev pub share_of : (shores weights : List ℕ) → (j : ℕ) → ℕ → ℕ
 share_of shores weights j i = cond (holds (place_of shores i) j) (place_of weights i) 0
 
-abbrev pub invariant-loop-k : goal.invariant-loop-k
-invariant-loop-k l = (l.k ≤ l.count) × (l.sum ≤ l.k * 4294967295) × (l.sum ≡ sum_below l.k (share_of l.shores l.weights l.j))
-
-abbrev pub decreases-loop-k : goal.decreases-loop-k
-decreases-loop-k l = l.count - l.k
+abbrev pub invariant-loop-shore : goal.invariant-loop-shore
+invariant-loop-shore l = record {
+  small : l.sum ≤ length l.yielded * 4294967295;
+  sum_so_far : l.sum ≡ sum_below (length l.yielded) (share_of l.shores l.weights l.j);
+}

@@ -1,120 +1,87 @@
 -- `neighbourhood::tight_neighbourhood` meets its contract: each return says what the neighbourhood promises. Assumes nothing.
-use mathlib.Core.Path.{◌≡◌, sym, ap, ◌∙◌, subst}
-use mathlib.Core.Bool.{Bool, true, false, ◌||◌}
-use mathlib.Core.List.{List}
+use mathlib.Core.Path.{◌≡◌, sym, ap, ◌∙◌}
 use mathlib.Core.Option.{none}
-use Prim.Native.Nat.{ℕ, ◌≤◌}
+use Prim.Native.Nat.{◌≤◌}
 use native.Mathlib.Omega.{arith}
 use lib.Dec.{eqb, ltb}
 use borrow.Author.Tests.{eqb-false, ltb-false}
+use Rattle.std.proofs.Common.{rules, Err}
 use Rattle.laws.proofs.Booleans.{or_false_l, or_false_r}
-use Rattle.hall.specs.Hall.{Hall, is_choice, member, missed}
-use Rattle.hall.specs.File.{hall_in, refusal}
-use Rattle.dicuts.specs.Shores.{Ranged}
-use Rattle.columns.specs.Columns.{Ends, Columns, flagged}
-use Rattle.refusals.specs.declared.Kind.TheVariants.{None}
-use Rattle.choice.specs.Short.{if_some}
-use Rattle.answers.specs.declared.Told.{Told}
-use Rattle.opening.specs.declared.Opened.{Opened}
-use Rattle.answers.specs.declared.Finding.{Finding}
-use Rattle.opening.specs.Choice.{choice_refusal}
+use Rattle.hall.specs.Hall.{Hall, missed}
+use Rattle.hall.specs.File.{hall_in}
+use Rattle.columns.specs.Lanes.{LanesOf}
+use Rattle.refusals.specs.Kinds.{answered}
+use Rattle.choice.specs.Short.{shore_of}
 use Rattle.neighbourhood.specs.Tight.{TightSays}
-use Rattle.answers.proofs.Answers.{some_missing}
+use Rattle.neighbourhood.proofs.Tight.{found_outside, found_missed, found_around, around_found}
 use Rattle.opening.proofs.Opening.{list_chosen}
-use Rattle.neighbourhood.proofs.Tight.{tight-refused, tight-outside, tight-missed, tight_found, around_found}
 use Rattle.opening.proofs.Opening as opening
 use Rattle.neighbourhood.proofs.tight_neighbourhood.Goals as goal
-use Rattle.neighbourhood.proofs.tight_neighbourhood.Goals.{Else-not-accepted, Else-outside}
+use Rattle.neighbourhood.proofs.tight_neighbourhood.Goals.{In_ok-opened, Else-outside, After-missed_shore}
 
-none_of : (s : ℕ) → s ≡ 0 → if_some s ≡ none
-unfolding if_some
-none_of s e = ap if_some e
-
--- where there is no refusal
-module _ (c : Else-not-accepted) where
+-- where the hall is opened
+module _ (c : In_ok-opened) where
   abbrev hall : Hall
   hall = hall_in c.args.file.now
 
-  abbrev choice : List ℕ
-  choice = c.args.choice.now
-
-  abbrev found : Opened
-  found = c.open_choice-opened.result
-
-  -- what opening the hall gave, for the laws on it
-  chosen_of : is_choice hall choice ≡ true
-  chosen_of = list_chosen c.args.file.now choice (opening.passed c.args.file.now choice found c.open_choice-opened.ensures c.is_none-accepted.result c.is_none-accepted.ensures c.if-not-accepted.false)
-
-  fine : choice_refusal c.args.file.now choice ≡ refusal 0 0
-  fine = opening.unrefused c.args.file.now choice found c.open_choice-opened.ensures c.is_none-accepted.result c.is_none-accepted.ensures c.if-not-accepted.false
-
-  ranged : Ranged hall
-  ranged = opening.ranged c.args.file.now choice found c.open_choice-opened.ensures c.is_none-accepted.result c.is_none-accepted.ensures c.if-not-accepted.false
-
-  columns : Columns hall found.hall.n found.hall.count found.hall.tails found.hall.heads
-  columns = opening.columns c.args.file.now choice found c.open_choice-opened.ensures c.is_none-accepted.result c.is_none-accepted.ensures c.if-not-accepted.false
-
-  ends : Ends found.hall.n found.hall.count found.hall.tails found.hall.heads
-  ends = opening.ends c.args.file.now choice found c.open_choice-opened.ensures c.is_none-accepted.result c.is_none-accepted.ensures c.if-not-accepted.false
-
-  flags : (i : ℕ) → 1 ≤ i → i ≤ found.hall.count → flagged found.chosen i ≡ member i choice
-  flags = opening.flags c.args.file.now choice found c.open_choice-opened.ensures c.is_none-accepted.result c.is_none-accepted.ensures c.if-not-accepted.false
-
-  -- the junction is none of 1 to n
-  abbrev outside : (n : ℕ) → Bool
-  outside n = eqb c.args.junction 0 || ltb n c.args.junction
-
-  as-tested : (b : Bool) → outside found.hall.n ≡ b → outside hall.n ≡ b
-  as-tested b q = ap outside columns.junctions ∙ q
+  columns : LanesOf hall c.in_ok-opened.opened.hall.lanes
+  columns = opening.columns c.args.file.now c.args.choice.now c.in_ok-opened.opened c.in_ok-opened.ensures
 
 -- where the junction is one of the hall's
 module _ (c : Else-outside) where
-  abbrev accepted : Else-not-accepted
-  accepted = (goal.at.Else-outside c).Else-not-accepted
+  least : 1 ≤ c.args.junction
+  least = omega (arith, eqb-false c.args.junction 0 (or_false_l (eqb c.args.junction 0) (ltb c.in_ok-opened.opened.hall.lanes.n c.args.junction) c.if-outside.false))
 
-  abbrev v : ℕ
-  v = c.args.junction
+  most : c.args.junction ≤ c.in_ok-opened.opened.hall.lanes.n
+  most = ltb-false c.in_ok-opened.opened.hall.lanes.n c.args.junction (or_false_r (eqb c.args.junction 0) (ltb c.in_ok-opened.opened.hall.lanes.n c.args.junction) c.if-outside.false)
 
-  inside : outside accepted (hall accepted).n ≡ false
-  inside = as-tested accepted false c.if-outside.false
+-- the shore is the one that is missed
+shore_is : (c : After-missed_shore) → shore_of c.missed_shore.result ≡ missed (hall_in c.args.file.now) c.args.choice.now
+shore_is c =
+    let got = c.in_ok-opened.ensures in
+    c.missed_shore.ensures (hall_in c.args.file.now) c.args.choice.now (columns (goal.at.After-missed_shore c).In_ok-opened) (opening.ranged _ _ _ got) (opening.flags _ _ _ got)
 
-  least : 1 ≤ v
-  least = omega (arith, eqb-false v 0 (or_false_l (eqb v 0) (ltb (found accepted).hall.n v) c.if-outside.false))
-
-  most : v ≤ (found accepted).hall.n
-  most = ltb-false (found accepted).hall.n v (or_false_r (eqb v 0) (ltb (found accepted).hall.n v) c.if-outside.false)
-
-pub returns-then-not-accepted : goal.returns-then-not-accepted
-returns-then-not-accepted c = subst (λ (r : Told). TightSays c.args.file.now c.args.choice.now c.args.junction r) (sym c.refused.ensures)
-    (tight-refused c.args.file.now c.args.choice.now c.args.junction c.open_choice-opened.result.refusal c.open_choice-opened.ensures.refusal
-    (opening.turned_back c.args.file.now c.args.choice.now c.open_choice-opened.result c.open_choice-opened.ensures c.is_none-accepted.result c.is_none-accepted.ensures c.if-not-accepted.true))
+pub returns-in_err-opened : goal.returns-in_err-opened
+unfolding TightSays answered
+returns-in_err-opened c =
+    let passed : c.from_residual.result ≡ Err c.in_err-opened.field-0.0 = search (rules, c.from_residual.ensures) in
+    rw passed (c.in_err-opened.ensures.refusal, tt)
 
 pub returns-then-outside : goal.returns-then-outside
-returns-then-outside c = let e = (goal.at.returns-then-outside c).Else-not-accepted in
-    subst (λ (r : Told). TightSays c.args.file.now c.args.choice.now c.args.junction r) (sym c.around.ensures)
-    (tight-outside c.args.file.now c.args.choice.now c.args.junction (fine e) (as-tested e true c.if-outside.true))
+unfolding TightSays answered
+returns-then-outside c =
+    let at = goal.at.returns-then-outside c in (
+      c.in_ok-opened.ensures.refusal,
+      found_outside c.args.file.now c.args.choice.now c.args.junction c.in_ok-opened.opened.hall.lanes.n (sym (columns at.In_ok-opened).junctions) c.if-outside.true,
+    )
 
-pub missed_shore-shore-requires : goal.missed_shore-shore-requires
-missed_shore-shore-requires c = let e = (goal.at.missed_shore-shore-requires c).Else-not-accepted in
-    (ends e, (hall e, columns e))
+pub missed_shore-requires : goal.missed_shore-requires
+missed_shore-requires c = (hall_in c.args.file.now, columns (goal.at.missed_shore-requires c).In_ok-opened)
 
-pub returns-then-shore-ne0 : goal.returns-then-shore-ne0
-returns-then-shore-ne0 c = let e = (goal.at.returns-then-shore-ne0 c).Else-not-accepted in
-    let shore = c.missed_shore-shore in
-    subst (λ (f : Finding). TightSays c.args.file.now c.args.choice.now c.args.junction (record { refusal = None; found = f })) (sym (some_missing shore.result c.if-shore-ne0.true))
-    (tight-missed c.args.file.now c.args.choice.now c.args.junction (fine e) (inside (goal.at.returns-then-shore-ne0 c).Else-outside) shore.result c.if-shore-ne0.true
-    (shore.ensures (hall e) (choice e) (columns e) (ranged e) (flags e)))
+pub returns-in-Some : goal.returns-in-Some
+unfolding TightSays answered
+returns-in-Some c =
+    let at = goal.at.returns-in-Some c in (
+      c.in_ok-opened.ensures.refusal,
+      found_missed c.args.file.now c.args.choice.now c.args.junction c.in_ok-opened.opened.hall.lanes.n (sym (columns at.In_ok-opened).junctions) c.if-outside.false
+          c.in-Some.shore (ap shore_of (sym c.in-Some.is) ∙ shore_is at.After-missed_shore),
+    )
 
-pub neighbourhood_of-requires : goal.neighbourhood_of-requires
-neighbourhood_of-requires c = let e = (goal.at.neighbourhood_of-requires c).Else-outside in
-    (ends (goal.at.neighbourhood_of-requires c).Else-not-accepted, least e, most e)
+pub neighbourhood_of-set-requires : goal.neighbourhood_of-set-requires
+neighbourhood_of-set-requires c = let at = goal.at.neighbourhood_of-set-requires c in (least at.Else-outside, most at.Else-outside)
 
 pub returns : goal.returns
-returns c = let e = (goal.at.returns c).Else-not-accepted in let e2 = (goal.at.returns c).Else-outside in
-    let got = c.neighbourhood_of in
-    let shore = c.missed_shore-shore in
-    let met : missed (hall e) (choice e) ≡ none = sym (shore.ensures (hall e) (choice e) (columns e) (ranged e) (flags e)) ∙ none_of shore.result c.if-shore-ne0.false in
-    subst (λ (r : Told). TightSays c.args.file.now c.args.choice.now c.args.junction r) (sym c.around-2.ensures)
-    (tight_found c.args.file.now c.args.choice.now c.args.junction (fine e) (inside e2) _ met
-    (around_found (hall e) (ranged e) (choice e) (chosen_of e) met (found e).chosen (λ i l u. flags e i l (omega (arith, (columns e).rows))) (v e2) got.result
-    (got.ensures (hall e) (columns e) (ranged e))))
+unfolding TightSays answered
+returns c =
+    let at = goal.at.returns c in
+    let o = c.in_ok-opened.opened in
+    let got = c.in_ok-opened.ensures in
+    let lanes_of = columns at.In_ok-opened in
+    let ranged = opening.ranged _ _ _ got in
+    let met : none ≡ missed (hall at.In_ok-opened) c.args.choice.now = ap shore_of (sym c.in_default.is) ∙ shore_is at.After-missed_shore in (
+      got.refusal,
+      found_around c.args.file.now c.args.choice.now c.args.junction o.hall.lanes.n (sym lanes_of.junctions) c.if-outside.false met c.neighbourhood_of-set.result
+          (around_found (hall at.In_ok-opened) ranged c.args.choice.now (list_chosen c.args.file.now c.args.choice.now (opening.passed _ _ _ got)) met o.chosen
+          (λ i l u. opening.flags _ _ _ got i l (omega (arith, lanes_of.rows))) c.args.junction c.neighbourhood_of-set.result
+          (c.neighbourhood_of-set.ensures (hall at.In_ok-opened) lanes_of ranged)),
+    )

@@ -1,82 +1,68 @@
 -- `opening::open_choice` meets its contract: the hall's refusal, then 10 for a list that is no choice, else the record and the flags. Assumes nothing.
-use mathlib.Core.Path.{◌≡◌, sym, ap, ◌∙◌}
+use mathlib.Core.Path.{◌≡◌, sym, ◌∙◌}
 use mathlib.Core.Bool.{true}
-use mathlib.Core.List.{List}
-use Prim.Native.Nat.{ℕ}
 use native.Mathlib.Omega.{arith}
 use lib.Dec.{eqb}
+use Rattle.std.proofs.Common.{rules, Err}
 use Rattle.hall.specs.Hall.{count, is_choice}
-use Rattle.hall.specs.File.{hall_in, hall_refusal, Refusal, refusal}
-use Rattle.refusals.specs.Kinds.{refusal_of}
-use Rattle.hallfile.specs.Record.{record_of}
-use Rattle.refusals.proofs.Numbers.{kind_none, is_refused, is_fine}
-use Rattle.hallfile.proofs.Reply.{reply_record}
+use Rattle.hall.specs.File.{hall_in, hall_refusal}
 use Rattle.dicuts.proofs.Choices.{choice_ascends}
-use Rattle.columns.specs.Columns.{Ends, Columns, Marks}
+use Rattle.columns.specs.Lanes.{LanesOf}
 use Rattle.choice.proofs.Ascent.{ascends_wider}
-use Rattle.opening.proofs.Opening.{hall-refused, list_refused, none_refused, opening_refused, row_flags}
-use Rattle.hallfile.proofs.Accepted as accepted
+use Rattle.refusals.specs.Kinds.{refusal_of, answered}
+use Rattle.refusals.proofs.Numbers.{kind_refused, answer_fine}
+use Rattle.hallfile.proofs.Records.{record_lanes, record_marks}
+use Rattle.opening.proofs.Opening.{hall-refused, list_refused, none_refused, row_flags}
 use Rattle.opening.proofs.open_choice.Goals as goal
-use Rattle.opening.proofs.open_choice.Goals.{After-is_choice, Else-not-is_none}
+use Rattle.opening.proofs.open_choice.Goals.{In_ok-hall, After-is_choice}
 
--- where there is no refusal
-module _ (c : Else-not-is_none) where
-  abbrev bytes : List ℕ
-  bytes = c.args.file.now
+-- where the hall is read
+module _ (c : In_ok-hall) where
+  fine : eqb (hall_refusal c.args.file.now).number 0 ≡ true
+  fine = answer_fine c.in_ok-hall.hall _ c.in_ok-hall.ensures.refusal
 
-  abbrev choice : List ℕ
-  choice = c.args.choice.now
-
-  fine : eqb (hall_refusal bytes).number 0 ≡ true
-  fine = is_fine c.read_hall-reading.result.refusal (hall_refusal bytes) c.is_none.result c.read_hall-reading.ensures.refusal c.is_none.ensures c.if-not-is_none.false
-
-  is_record : c.read_hall-reading.result.hall ≡ record_of (hall_in bytes)
-  is_record = reply_record (hall_refusal bytes) (hall_in bytes) c.read_hall-reading.result c.read_hall-reading.ensures fine
-
-  columns : Columns (hall_in bytes) c.read_hall-reading.result.hall.n c.read_hall-reading.result.hall.count c.read_hall-reading.result.hall.tails c.read_hall-reading.result.hall.heads
-  columns = accepted.columns bytes fine c.read_hall-reading.result.hall is_record
-
-  ends : Ends c.read_hall-reading.result.hall.n c.read_hall-reading.result.hall.count c.read_hall-reading.result.hall.tails c.read_hall-reading.result.hall.heads
-  ends = accepted.ends bytes fine c.read_hall-reading.result.hall is_record
-
-  marks : Marks (hall_in bytes) c.read_hall-reading.result.hall.fixed
-  marks = accepted.marks bytes fine c.read_hall-reading.result.hall is_record
+  lanes : LanesOf (hall_in c.args.file.now) c.in_ok-hall.hall.lanes
+  lanes = record_lanes (hall_in c.args.file.now) c.in_ok-hall.hall c.in_ok-hall.ensures.hall
 
 -- where the list is tried
 module _ (c : After-is_choice) where
-  told : is_choice (hall_in (bytes (goal.at.After-is_choice c).Else-not-is_none)) (choice (goal.at.After-is_choice c).Else-not-is_none) ≡ c.is_choice.result
-  told = sym (c.is_choice.ensures (hall_in (bytes (goal.at.After-is_choice c).Else-not-is_none)) (columns (goal.at.After-is_choice c).Else-not-is_none).rows (marks (goal.at.After-is_choice c).Else-not-is_none))
+  told : is_choice (hall_in c.args.file.now) c.args.choice.now ≡ c.is_choice.result
+  told =
+      sym (c.is_choice.ensures (hall_in c.args.file.now) (lanes (goal.at.After-is_choice c).In_ok-hall).rows
+      (record_marks (hall_in c.args.file.now) c.in_ok-hall.hall c.in_ok-hall.ensures.hall))
 
-pub returns-then-not-is_none : goal.returns-then-not-is_none
-returns-then-not-is_none c = let got = c.read_hall-reading in
-    let n = is_refused got.result.refusal (hall_refusal c.args.file.now) c.is_none.result got.ensures.refusal c.is_none.ensures c.if-not-is_none.true in
-    let h = hall-refused c.args.file.now c.args.choice.now n in
-    opening_refused c.args.file.now c.args.choice.now _ (got.ensures.refusal ∙ sym h) (ap (λ (f : Refusal). eqb f.number 0) h ∙ n)
-
-pub overflow_cast-hall : goal.overflow_cast-hall
-overflow_cast-hall c = omega (arith, (ends (goal.at.overflow_cast-hall c).Else-not-is_none).few)
-
-pub is_choice-requires : goal.is_choice-requires
-is_choice-requires c = (ends (goal.at.is_choice-requires c).Else-not-is_none).few
+pub returns-in_err-hall : goal.returns-in_err-hall
+unfolding answered
+returns-in_err-hall c =
+    let k = c.in_err-hall.field-0.0 in
+    let passed : c.from_residual.result ≡ Err k = search (rules, c.from_residual.ensures) in
+    let told = c.in_err-hall.ensures.refusal in
+    rw passed (record { refusal = told ∙ sym (hall-refused c.args.file.now c.args.choice.now (kind_refused k _ told)); hall = tt; flags = tt })
 
 pub returns-then-not-is_choice : goal.returns-then-not-is_choice
-unfolding refusal_of refusal
-returns-then-not-is_choice c = let e = (goal.at.returns-then-not-is_choice c).Else-not-is_none in
-    let q = list_refused (bytes e) (choice e) (fine e) (told (goal.at.returns-then-not-is_choice c).After-is_choice ∙ c.if-not-is_choice.true) in
-    opening_refused (bytes e) (choice e) _ (sym q) (ap (λ (f : Refusal). eqb f.number 0) q)
+unfolding refusal_of answered
+returns-then-not-is_choice c =
+    let at = goal.at.returns-then-not-is_choice c in
+    record {
+      refusal = sym (list_refused c.args.file.now c.args.choice.now (fine at.In_ok-hall) (told at.After-is_choice ∙ c.if-not-is_choice.true));
+      hall = tt;
+      flags = tt;
+    }
 
-pub flags-chosen-requires : goal.flags-chosen-requires
-flags-chosen-requires c = let e = (goal.at.flags-chosen-requires c).Else-not-is_none in
-    let h = hall_in (bytes e) in
-    ascends_wider 1 (count h) 256 (choice e) (omega (arith, (columns e).rows, (ends e).few)) (choice_ascends h (choice e) (told (goal.at.flags-chosen-requires c).After-is_choice ∙ c.if-not-is_choice.false))
+pub flags-requires : goal.flags-requires
+flags-requires c =
+    let at = goal.at.flags-requires c in
+    let h = hall_in c.args.file.now in
+    ascends_wider 1 (count h) 256 c.args.choice.now (omega (arith, (lanes at.In_ok-hall).rows, c.in_ok-hall.hall.lanes.ends.few))
+    (choice_ascends h c.args.choice.now (told at.After-is_choice ∙ c.if-not-is_choice.false))
 
 pub returns : goal.returns
-returns c = let e = (goal.at.returns c).Else-not-is_none in
-    let reading = c.read_hall-reading in
-    let none = kind_none reading.result.refusal (ap (λ (f : Refusal). eqb f.number 0) reading.ensures.refusal ∙ fine e) in
-    let q = none_refused (bytes e) (choice e) (fine e) (told (goal.at.returns c).After-is_choice ∙ c.if-not-is_choice.false) in
+unfolding answered
+returns c =
+    let at = goal.at.returns c in
     record {
-      refusal = none ∙ sym q;
-      hall = λ z. is_record e;
-      flags = λ z i l u. row_flags c.flags-chosen.result (choice e) 256 (omega arith) c.flags-chosen.ensures.1 i l (omega (arith, (columns e).rows, (ends e).few));
+      refusal = sym (none_refused c.args.file.now c.args.choice.now (fine at.In_ok-hall) (told at.After-is_choice ∙ c.if-not-is_choice.false));
+      hall = c.in_ok-hall.ensures.hall;
+      flags = λ i l u. row_flags c.flags.result c.args.choice.now 256 (omega arith) c.flags.ensures.1 i l
+          (omega (arith, u, (lanes at.In_ok-hall).rows, c.in_ok-hall.hall.lanes.ends.few));
     }

@@ -1,43 +1,58 @@
 -- `planrows::plan_rows` meets its contract: the first refusal, with the list as it was, or the first choice of the hall that was read. Assumes nothing.
-use mathlib.Core.Path.{◌≡◌, sym, subst}
-use mathlib.Core.Bool.{true}
-use Prim.Native.Nat.{◌≤◌}
-use lib.Dec.{eqb}
-use lib.ListN.{length}
-use Rattle.hall.specs.File.{hall_in, hall_refusal}
-use Rattle.refusals.proofs.Numbers.{unrefused, is_refused, is_fine}
-use Rattle.hallfile.specs.Record.{record_of}
-use Rattle.hallfile.proofs.Reply.{reply_record}
-use Rattle.planrows.specs.declared.PlannedRows.{PlannedRows}
-use Rattle.planrows.proofs.Rows.{Says, says_short, says_refused, says_rows}
+use mathlib.Core.Path.{◌≡◌}
+use Rattle.std.proofs.Common.{rules, Err}
+use Rattle.hall.specs.Hall.{Hall}
+use Rattle.hall.specs.File.{hall_in}
+use Rattle.refusals.specs.Kinds.{answered}
+use Rattle.refusals.proofs.Numbers.{answer_fine}
+use Rattle.plan.specs.Ready.{Accepted, Ready}
+use Rattle.plan.proofs.Prices.{unfixed_ready, ranked_modest, costs_ranked}
+use Rattle.plan.proofs.Reading.{ready}
+use Rattle.planrows.proofs.Rows.{says_short, says_refused, says_rows}
 use Rattle.planrows.proofs.plan_rows.Goals as goal
-use Rattle.planrows.proofs.plan_rows.Goals.{After-is_none, Else-not-is_none}
+use Rattle.planrows.proofs.plan_rows.Goals.{In_ok-hall, After-unflagged-unfixed}
 
--- once the list is long enough, the hall is read and the refusal is tested
-module _ (c : After-is_none) where
-  room : 256 ≤ length c.args.rows.now
-  room = c.if-rows-lt256.false
+-- where the hall is read
+module _ (c : In_ok-hall) where
+  abbrev hall : Hall
+  hall = hall_in c.args.file.now
 
--- where there is no refusal
-module _ (c : Else-not-is_none) where
-  fine : eqb (hall_refusal c.args.file.now).number 0 ≡ true
-  fine = is_fine c.read_hall-reading.result.refusal (hall_refusal c.args.file.now) c.is_none.result c.read_hall-reading.ensures.refusal c.is_none.ensures c.if-not-is_none.false
+  accepted : Accepted hall c.in_ok-hall.hall
+  accepted = ready c.args.file.now (answer_fine c.in_ok-hall.hall _ c.in_ok-hall.ensures.refusal) c.in_ok-hall.hall c.in_ok-hall.ensures.hall
 
-  is_record : c.read_hall-reading.result.hall ≡ record_of (hall_in c.args.file.now)
-  is_record = reply_record (hall_refusal c.args.file.now) (hall_in c.args.file.now) c.read_hall-reading.result c.read_hall-reading.ensures fine
+-- where the rows that are not fixed are flagged
+unfixed : (c : After-unflagged-unfixed) → Ready (hall_in c.args.file.now) c.in_ok-hall.hall.lanes c.unflagged-unfixed.result
+unfixed c =
+    unfixed_ready (hall_in c.args.file.now) c.in_ok-hall.hall (accepted (goal.at.After-unflagged-unfixed c).In_ok-hall) c.unflagged-unfixed.result c.unflagged-unfixed.ensures.1
 
 pub returns-then-rows-lt256 : goal.returns-then-rows-lt256
-returns-then-rows-lt256 c = let a = c.args in
-    subst (λ (r : PlannedRows). Says a.file.now a.rows.now r a.rows.now) (sym c.refused.ensures) (says_short a.file.now a.rows.now c.if-rows-lt256.true)
+returns-then-rows-lt256 c = says_short c.args.file.now c.args.rows.now c.if-rows-lt256.true
 
-pub returns-then-not-is_none : goal.returns-then-not-is_none
-returns-then-not-is_none c = subst (λ (r : PlannedRows). Says c.args.file.now c.args.rows.now r c.args.rows.now) (sym c.refused-then-not-is_none.ensures)
-    (says_refused c.args.file.now c.args.rows.now (room (goal.at.returns-then-not-is_none c).After-is_none) c.read_hall-reading.result.refusal c.read_hall-reading.ensures.refusal
-    (is_refused c.read_hall-reading.result.refusal (hall_refusal c.args.file.now) c.is_none.result c.read_hall-reading.ensures.refusal c.is_none.ensures c.if-not-is_none.true))
+pub returns-in_err-hall : goal.returns-in_err-hall
+unfolding answered
+returns-in_err-hall c =
+    let passed : c.from_residual.result ≡ Err c.in_err-hall.field-0.0 = search (rules, c.from_residual.ensures) in
+    rw passed (says_refused c.args.file.now c.args.rows.now c.if-rows-lt256.false c.in_err-hall.field-0.0 c.in_err-hall.ensures.refusal)
 
-pub rows_of-requires : goal.rows_of-requires
-rows_of-requires c = (room (goal.at.rows_of-requires c).After-is_none, (c.args.file.now, fine (goal.at.rows_of-requires c).Else-not-is_none, is_record (goal.at.rows_of-requires c).Else-not-is_none))
+pub ranked_costs-costs-requires : goal.ranked_costs-costs-requires
+ranked_costs-costs-requires c = let x = c.in_ok-hall.hall in (x.lanes.ends.few, x.prices_low)
+
+pub first_from_rows-first-requires : goal.first_from_rows-first-requires
+first_from_rows-first-requires c =
+    let at = goal.at.first_from_rows-first-requires c in
+    record {
+      modest = ranked_modest (hall at.In_ok-hall) c.in_ok-hall.hall (accepted at.In_ok-hall) c.ranked_costs-costs.result.rows c.ranked_costs-costs.ensures;
+      ready = (hall at.In_ok-hall, unfixed at.After-unflagged-unfixed);
+    }
+
+pub list_first-requires : goal.list_first-requires
+list_first-requires c = c.if-rows-lt256.false
 
 pub returns : goal.returns
-returns c = let got = c.rows_of in
-    says_rows c.args.file.now c.args.rows.now (room (goal.at.returns c).After-is_none) (unrefused c.read_hall-reading.result.refusal (hall_refusal c.args.file.now) c.read_hall-reading.ensures.refusal (fine (goal.at.returns c).Else-not-is_none)) got.result _ got.ensures.0 (got.ensures.1 c.args.file.now (fine (goal.at.returns c).Else-not-is_none) (is_record (goal.at.returns c).Else-not-is_none))
+unfolding answered
+returns c =
+    let at = goal.at.returns c in
+    let h = hall at.In_ok-hall in let x = c.in_ok-hall.hall in let rd = accepted at.In_ok-hall in
+    says_rows c.args.file.now c.args.rows.now c.if-rows-lt256.false c.in_ok-hall.ensures.refusal c.list_first.result _
+    (c.list_first.ensures h rd
+    (c.first_from_rows-first.ensures h (unfixed at.After-unflagged-unfixed) rd.able (costs_ranked h x rd c.ranked_costs-costs.result.rows c.ranked_costs-costs.ensures)))

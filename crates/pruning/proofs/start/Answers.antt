@@ -1,60 +1,55 @@
 -- The goals that `pruning::start` leaves open, by the lemmas and the invariant of its loop. Assumes nothing.
-use mathlib.Core.Path.{◌∙◌}
-use mathlib.Core.Bool.{false}
-use native.Mathlib.Omega.{arith}
-use lib.ListN.{get_or, set, length-set, replicate, get_or-replicate}
-use Rattle.laws.proofs.Booleans.{and_r}
-use Rattle.pruning.proofs.Dropping.{thinned_start, among_without, among_again, ends_fit, backed_forward, turn_dropped, turn_kept}
+use Rattle.std.proofs.Common.{◌≡◌, refl, sym, ap, ◌∙◌, true, false, suc, ℕ, ◌≤◌, ◌<◌, get_or, rules, arith, add-one}
+use Rattle.std.proofs.lemmas.Grind.{common_steps}
+use Rattle.std.proofs.Math.ListN.{set, length-set}
+use Rattle.std.proofs.Math.Seq.{set-set, set-get_or}
+use Rattle.junctions.specs.Sets.{holds}
+use Rattle.hall.specs.Hall.{Hall, row}
+use Rattle.columns.specs.Columns.{flagged}
+use Rattle.columns.specs.Lanes.{LanesOf}
+use Rattle.columns.proofs.Places.{lane_tail, lane_head}
+use Rattle.pruning.specs.Backed.{Backed}
+use Rattle.pruning.proofs.Dropping.{thinned_start, forward_all, among_without, under_drop, dropped-joins}
 use Rattle.pruning.proofs.start.Goals as goal
-use Rattle.pruning.proofs.start.Goals.{then-not-kept-dropped, else-not-kept-dropped}
+use Rattle.pruning.proofs.start.Goals.{Joined-stays, then-stays, else-stays, then-not-leads, else-not-leads}
 
-pub loop-turn-init : goal.loop-turn-init
-loop-turn-init c = let arcs = c.of_rows-arcs in let a = c.args in
-    (omega arith, arcs.type_inv.1.0.1, λ k e. e, λ h cols rg joins. thinned_start h a.rows arcs.result joins (arcs.ensures h cols))
+pub loop-place-init : goal.loop-place-init
+loop-place-init c = (search rules, λ k e. e, λ h lanes rg joins. thinned_start h c.args.rows c.of_rows-arcs.result joins (c.of_rows-arcs.ensures h lanes))
 
-pub place-head-requires : goal.place-head-requires
-place-head-requires c = let e = ends_fit c.args.n c.args.m c.args.tails.now c.args.heads.now c.requires.0 c.place_of-k.result c.place_of-k.ensures in
-    (e.2, e.3)
+pub invariant_of-known : goal.invariant_of-known
+invariant_of-known c = record { forward_are = forward_all c.args.lanes.now c.args.lanes.now.ends c.of_rows.result c.of_rows.ensures }
 
-pub place-tail-requires : goal.place-tail-requires
-place-tail-requires c = let e = ends_fit c.args.n c.args.m c.args.tails.now c.args.heads.now c.requires.0 c.place_of-k.result c.place_of-k.ensures in
-    (e.0, e.1)
+-- what is left of the head's arcs: all of them, where the rows that are left back the row's own, or else all but that
+spares : (c : Joined-stays) (h : Hall) → LanesOf h c.args.lanes.now → (y : ℕ) → 1 ≤ y → holds c.if-stays.arcs y ≡ true →
+    (holds (get_or c.loop-place.arcs c.lane-tail.result.head 0) y ≡ true)
+    × (y ≡ suc c.lane-tail.result.tail → Backed h (flagged (set c.loop-place.left c.from-k.result false)) (suc c.from-k.result))
+spares c h lanes y low = elim c.if-stays.branch [
+  | then-stays w ↦ rw w.arcs-is (λ e. (e, λ own. c.stays.ensures h lanes w.if-stays.true))
+  | else-stays w ↦ rw w.arcs-is (λ e. let out = w.without.ensures y low e in (out.0, λ own. absurd (out.1 own)))
+]
 
-pub bounds-left-k-then-not-kept-dropped : goal.bounds-left-k-then-not-kept-dropped
-bounds-left-k-then-not-kept-dropped c = omega (arith, c.place_of-k.ensures, c.requires.0.few)
-
-pub overflow_add-turn : goal.overflow_add-turn
-overflow_add-turn c = record { fits = omega (arith, c.loop-turn-test.true, c.requires.0.few) }
-
-pub loop-turn-preserved : goal.loop-turn-preserved
-loop-turn-preserved c = let led = c.leads-dropped in
-    let l = c.loop-turn in
-    let forward = c.of_rows-forward in
-    let a = c.args in
-    let k = c.place_of-k.result in
-    let head = c.place-head in
-    let tail = c.place-tail in
-    let rest = c.spared_arcs-rest.result in
-    elim c.if-not-kept-dropped.branch [
-      | then-not-kept-dropped w ↦ rw (w.arcs-is, w.left-is) (
-        omega (arith, c.loop-turn-test.true),
-        length-set (set l.arcs head.result rest) head.result (get_or l.arcs head.result 0) ∙ length-set l.arcs head.result rest ∙ l.invariant.1,
-        among_again l.left a.rows k l.invariant.2,
-        λ h cols rg joins.
-            turn_kept l.left k h rg a.n a.m a.tails.now a.heads.now c.requires.0.size cols c.place_of-k.ensures l.arcs l.invariant.1 head.result tail.result rest
-            head.ensures.1 head.ensures.0 tail.ensures.0 (l.invariant.3 h cols rg joins),
-      )
-      | else-not-kept-dropped w ↦ rw (w.arcs-is, w.left-is) (
-        omega (arith, c.loop-turn-test.true),
-        length-set l.arcs head.result rest ∙ l.invariant.1,
-        among_without l.left a.rows k l.invariant.2,
-        λ h cols rg joins.
-            let sure = backed_forward (set l.left k false) k h a.n a.m a.tails.now a.heads.now cols c.place_of-k.ensures rg (replicate 256 false)
-            (λ i less. get_or-replicate 256 i false false (omega (arith, c.requires.0.few))) forward.result (forward.ensures h cols) head.result tail.result head.ensures.0 tail.ensures.0 in
-            turn_dropped l.left k h rg a.n a.m a.tails.now a.heads.now c.requires.0.size cols c.place_of-k.ensures l.arcs l.invariant.1 head.result tail.result rest
-            head.ensures.1 head.ensures.0 tail.ensures.0 (l.invariant.3 h cols rg joins) (c.spared_arcs-rest.ensures h a.n cols sure) (led.ensures (and_r (get_or l.left k false) led.result w.if-not-kept-dropped.false)),
+pub loop-place-preserved : goal.loop-place-preserved
+loop-place-preserved c =
+    let l = c.loop-place in let k = c.from-k.result in let lane = c.lane-tail.result in
+    let less : k < c.args.lanes.now.count = grind (arith, common_steps) in
+    let held : get_or l.left k false ≡ true = c.if-not-left-k.false in
+    let back : set (set l.left k false) k true ≡ l.left = rw (set-set l.left k false true) (ap (set l.left k) (sym held) ∙ set-get_or l.left k false) in
+    let same : set (set l.arcs lane.head c.if-stays.arcs) lane.head (get_or l.arcs lane.head 0) ≡ l.arcs =
+    rw (set-set l.arcs lane.head c.if-stays.arcs (get_or l.arcs lane.head 0), set-get_or l.arcs lane.head 0) refl in
+    elim c.if-not-leads.branch [
+      | then-not-leads w ↦ rw (w.arcs-is, w.left-is, back, same) l.invariant
+      | else-not-leads w ↦ rw (w.arcs-is, w.left-is) (
+        length-set l.arcs lane.head c.if-stays.arcs ∙ l.invariant.0,
+        among_without l.left c.args.rows k l.invariant.1,
+        λ h lanes rg joins.
+            let ls = c.args.lanes.now in let so_far = l.invariant.2 h lanes rg joins in
+            let from : suc lane.tail ≡ (row h (suc k)).from = omega (arith, c.lane-tail.ensures.tail, lane_tail h ls lanes k less) in
+            let to : suc lane.head ≡ (row h (suc k)).to = omega (arith, c.lane-tail.ensures.head, lane_head h ls lanes k less) in
+            let under = under_drop l.left k h rg ls lanes less l.arcs lane.head c.if-stays.arcs l.invariant.0 (omega arith) to so_far.1
+            (λ y low e. let s = spares (goal.at.loop-place-preserved c).Joined-stays h lanes y low e in (s.0, λ own. s.1 (own ∙ sym from))) in (
+              dropped-joins l.left k h rg ls lanes less (set l.arcs lane.head c.if-stays.arcs) under
+                  (rw (add-one lane.head, add-one lane.tail, from, to) at (c.leads.ensures w.if-not-leads.false)) so_far.0,
+              under,
+            ),
       )
     ]
-
-pub returns : goal.returns
-returns c = let l = c.loop-turn in (l.invariant.2, λ h cols rg joins. (l.invariant.3 h cols rg joins).0)

@@ -1,27 +1,16 @@
 -- Each turn narrows the room by the neighbourhood of one junction more; once none is left it is the most that all of them allow. Assumes nothing.
-use mathlib.Core.Path.{refl}
-use Prim.Native.Nat.{◌-◌}
-use native.Mathlib.Omega.{arith}
-use lib.Bits.{and_le_r}
+use Rattle.junctions.proofs.Without.{without}
 use Rattle.raise.specs.Rooms.{NearAllow}
-use Rattle.junctions.proofs.Taking.{within_self}
-use Rattle.raise.proofs.Rooms.{taken_room_none, taken_room_more, taken_within, taken_room_all, beyond, beyond_down, beyond_narrow}
+use Rattle.raise.proofs.Rooms.{beyond, beyond_down, beyond_narrow, members_room_more, members_room_none}
 use Rattle.raise.proofs.near_room.Goals as goal
 
-pub loop-rest-init : goal.loop-rest-init
-loop-rest-init c = let a = c.args in (omega arith, within_self a.set, taken_room_none (beyond a.around.now a.potential.now a.set) a.set a.start)
-
-pub loop-rest-smaller : goal.loop-rest-smaller
-loop-rest-smaller c = let rest = c.loop-rest.rest in omega (arith, and_le_r rest (rest - 1))
-
-pub loop-rest-preserved : goal.loop-rest-preserved
-loop-rest-preserved c = let low = c.lowest-j in let l = c.loop-rest in let a = c.args in let rest = l.rest in let q = beyond a.around.now a.potential.now a.set in (
-  omega (arith, and_le_r rest (rest - 1)),
-  taken_within q a.set a.start rest low.result (omega arith) l.invariant.0 low.ensures.0 l.invariant.1,
-  taken_room_more q a.set a.start rest low.result (omega arith) l.invariant.0 low.ensures.0 l.invariant.1 (beyond_down a.around.now a.potential.now a.set)
-      l.room c.set_room-room.result l.invariant.2 (beyond_narrow a.around.now a.potential.now a.set low.result l.room c.set_room-room.result _ refl c.set_room-room.ensures),
-)
+pub loop-j-preserved : goal.loop-j-preserved
+loop-j-preserved c = let a = c.args in let l = c.loop-j in
+    λ r most.
+    l.invariant r
+    (members_room_more (beyond a.around.now a.potential.now a.set) c.in-Some.ensures.steps (beyond_down a.around.now a.potential.now a.set) l.room c.set_room-room.result
+    (beyond_narrow a.around.now a.potential.now a.set c.in-Some.j l.room c.set_room-room.result _ (without _ a.set (c.fits-around c.in-Some.j) c.ranges.set.fits) c.set_room-room.ensures) r most)
 
 pub returns : goal.returns
 unfolding NearAllow
-returns c = let l = c.loop-rest in let a = c.args in taken_room_all (beyond a.around.now a.potential.now a.set) a.set a.start l.rest l.room (omega arith) l.invariant.2
+returns c = c.loop-j.invariant c.loop-j.room (members_room_none (beyond c.args.around.now c.args.potential.now c.args.set) c.loop-j.j-iterator.left c.loop-j.room c.in-None.ensures.steps.0)

@@ -1,12 +1,8 @@
--- Near_room takes one junction of the set a turn. The invariant: the room is the most that the neighbourhoods of those taken allow. The measure is what is left, as a number. Assumes nothing.
-use Prim.Native.Nat.{◌^◌, ◌<◌}
-use Rattle.junctions.specs.Sets.{Within}
+-- Near_room takes one junction of the set a turn. The invariant: the most that the neighbourhoods of those left allow, up to the room, is the most that all allow, up to the start. Assumes nothing.
+use Prim.Native.Nat.{ℕ}
 use Rattle.raise.specs.Rooms.{Most}
-use Rattle.raise.proofs.Rooms.{taken_room, beyond}
+use Rattle.raise.proofs.Rooms.{members_room, beyond}
 use Rattle.raise.proofs.near_room.Given as goal
 
-abbrev pub invariant-loop-rest : goal.invariant-loop-rest
-invariant-loop-rest l = (l.rest < 2 ^ 64) × Within l.rest l.set × Most (taken_room (beyond l.around l.potential l.set) l.set l.start l.rest) l.room
-
-abbrev pub decreases-loop-rest : goal.decreases-loop-rest
-decreases-loop-rest l = l.rest
+abbrev pub invariant-loop-j : goal.invariant-loop-j
+invariant-loop-j l = (r : ℕ) → Most (members_room (beyond l.around l.potential l.set) l.j-iterator.left l.room) r → Most (members_room (beyond l.around l.potential l.set) l.set l.start) r

@@ -1,10 +1,13 @@
--- Raise makes one level a turn. The invariant: the first j places hold the raised levels. The measure is the places to come. Assumes nothing.
-use Prim.Native.Nat.{◌-◌, ◌≤◌}
-use Rattle.raise.proofs.Lifts.{Lifted}
+-- Raise lifts one junction a turn. The invariant: the junctions that are left to lift make of the levels what the raise on the set makes of the potential. Assumes nothing.
+use mathlib.Core.Path.{◌≡◌}
+use Prim.Native.Nat.{ℕ, ◌≤◌}
+use lib.ListN.{length}
+use Rattle.laws.specs.Lists.{at}
+use Rattle.potentials.specs.ZeroGraph.{raised}
 use Rattle.raise.proofs.raise.Given as goal
 
 abbrev pub invariant-loop-j : goal.invariant-loop-j
-invariant-loop-j l = (l.j ≤ 64) × Lifted l.set l.by l.potential l.j l.next
-
-abbrev pub decreases-loop-j : goal.decreases-loop-j
-decreases-loop-j l = 64 - l.j
+invariant-loop-j l = record {
+  size : length l.next ≡ 64;
+  same : (j : ℕ) → 1 ≤ j → raised l.j-iterator.left l.by (at l.next) j ≡ raised l.set l.by (at l.potential) j;
+}

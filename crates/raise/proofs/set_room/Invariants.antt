@@ -1,12 +1,8 @@
--- Set_room takes one junction of the set a turn. The invariant: the room is the most that those taken allow. The measure is what is left, as a number. Assumes nothing.
-use Prim.Native.Nat.{◌^◌, ◌<◌}
-use Rattle.junctions.specs.Sets.{Within}
+-- Set_room takes one junction of the set a turn. The invariant: the most that those left allow, up to the room, is the most that all allow, up to the start. Assumes nothing.
+use Prim.Native.Nat.{ℕ}
 use Rattle.raise.specs.Rooms.{Most}
-use Rattle.raise.proofs.Rooms.{over, taken_room}
+use Rattle.raise.proofs.Rooms.{members_room, over}
 use Rattle.raise.proofs.set_room.Given as goal
 
-abbrev pub invariant-loop-rest : goal.invariant-loop-rest
-invariant-loop-rest l = (l.rest < 2 ^ 64) × Within l.rest l.set × Most (taken_room (over l.potential l.low) l.set l.start l.rest) l.room
-
-abbrev pub decreases-loop-rest : goal.decreases-loop-rest
-decreases-loop-rest l = l.rest
+abbrev pub invariant-loop-j : goal.invariant-loop-j
+invariant-loop-j l = (r : ℕ) → Most (members_room (over l.potential l.low) l.j-iterator.left l.room) r → Most (members_room (over l.potential l.low) l.set l.start) r

@@ -1,79 +1,97 @@
 -- `routing::route` meets its contract: each return says what the route promises. Assumes nothing.
-use mathlib.Core.Path.{◌≡◌, sym, subst}
-use mathlib.Core.List.{List}
-use Prim.Native.Nat.{ℕ, ◌≤◌}
-use lib.IntN.{ℤ}
-use lib.ListN.{length}
-use Rattle.hall.specs.Hall.{Hall, member}
-use Rattle.hall.specs.File.{hall_in, refusal}
-use Rattle.dicuts.specs.Shores.{Ranged}
-use Rattle.columns.specs.Columns.{Ends, Columns, flagged}
-use Rattle.refusals.specs.Kinds.{refusal_of}
-use Rattle.opening.specs.declared.Opened.{Opened}
-use Rattle.opening.specs.Choice.{choice_refusal}
+use mathlib.Core.Path.{◌≡◌, sym, ap, ◌∙◌}
+use mathlib.Core.Option.{none}
+use native.Mathlib.Omega.{arith}
+use Rattle.std.proofs.Common.{rules, Err}
+use Rattle.hall.specs.Hall.{missed}
+use Rattle.hall.specs.File.{hall_in}
+use Rattle.columns.specs.Lanes.{LanesOf}
+use Rattle.refusals.specs.Kinds.{answered}
+use Rattle.choice.specs.Short.{shore_of}
+use Rattle.choice.proofs.Short.{arcs-inside, arcs-missed}
+use Rattle.shortest.specs.Steps.{OpenedHall}
+use Rattle.shortest.proofs.Searching.{opened-hall}
+use Rattle.routing.proofs.Routing.{none_joins, inside_ends, route_short, route_refused, route_outside, route_missed, route_found}
 use Rattle.opening.proofs.Opening as opening
-use Rattle.routing.specs.declared.Routed.{Routed}
-use Rattle.routing.specs.Route.{way_outcome, way_set, way_filled, RouteSays}
-use Rattle.routing.proofs.Routing.{route_short, route_refused, route_found}
 use Rattle.routing.proofs.route.Goals as goal
-use Rattle.routing.proofs.route.Goals.{After-is_none, Else-not-is_none, Start}
+use Rattle.routing.proofs.route.Goals.{In_ok-opened, After-shortfall-shore}
 
--- what the start asks of a reply that leaves the list so
-abbrev Says : Start → Routed → (now : List ℤ) → Type 0
-Says c r now =
-    let a = c.args in RouteSays a.file.now a.choice.now a.from a.to (refusal_of r.refusal) (way_outcome r.way) (way_set r.way) (way_filled r.way) a.rows.now now
-
--- once the list is long enough, the hall is opened and the refusal is tested
-module _ (c : After-is_none) where
-  room : 63 ≤ length c.args.rows.now
-  room = c.if-rows-lt63.false
-
--- where there is no refusal
-module _ (c : Else-not-is_none) where
-  abbrev hall : Hall
-  hall = hall_in c.args.file.now
-
-  abbrev choice : List ℕ
-  choice = c.args.choice.now
-
-  abbrev found : Opened
-  found = c.open_choice-opened.result
-
-  -- what opening the hall gave, for the laws on it
-  fine : choice_refusal c.args.file.now choice ≡ refusal 0 0
-  fine = opening.unrefused c.args.file.now choice found c.open_choice-opened.ensures c.is_none.result c.is_none.ensures c.if-not-is_none.false
-
-  ranged : Ranged hall
-  ranged = opening.ranged c.args.file.now choice found c.open_choice-opened.ensures c.is_none.result c.is_none.ensures c.if-not-is_none.false
-
-  columns : Columns hall found.hall.n found.hall.count found.hall.tails found.hall.heads
-  columns = opening.columns c.args.file.now choice found c.open_choice-opened.ensures c.is_none.result c.is_none.ensures c.if-not-is_none.false
-
-  ends : Ends found.hall.n found.hall.count found.hall.tails found.hall.heads
-  ends = opening.ends c.args.file.now choice found c.open_choice-opened.ensures c.is_none.result c.is_none.ensures c.if-not-is_none.false
-
-  flags : (i : ℕ) → 1 ≤ i → i ≤ found.hall.count → flagged found.chosen i ≡ member i choice
-  flags = opening.flags c.args.file.now choice found c.open_choice-opened.ensures c.is_none.result c.is_none.ensures c.if-not-is_none.false
+-- where the hall is opened
+lanes_of : (c : In_ok-opened) → LanesOf (hall_in c.args.file.now) c.in_ok-opened.opened.hall.lanes
+lanes_of c = opening.columns c.args.file.now c.args.choice.now c.in_ok-opened.opened c.in_ok-opened.ensures
 
 pub returns-then-rows-lt63 : goal.returns-then-rows-lt63
-returns-then-rows-lt63 c = let a = c.args in
-    subst (λ (r : Routed). Says (goal.at.returns-then-rows-lt63 c).Start r a.rows.now) (sym c.turned_back.ensures) (route_short a.file.now a.choice.now a.from a.to a.rows.now c.if-rows-lt63.true)
+returns-then-rows-lt63 c = route_short c.args.file.now c.args.choice.now c.args.from c.args.to c.args.rows.now c.if-rows-lt63.true
 
-pub returns-then-not-is_none : goal.returns-then-not-is_none
-returns-then-not-is_none c = let a = c.args in
-    subst (λ (r : Routed). Says (goal.at.returns-then-not-is_none c).Start r a.rows.now) (sym c.turned_back-then-not-is_none.ensures)
-    (route_refused c.args.file.now c.args.choice.now a.from a.to a.rows.now (room (goal.at.returns-then-not-is_none c).After-is_none) c.open_choice-opened.result.refusal c.open_choice-opened.ensures.refusal
-    (opening.turned_back c.args.file.now c.args.choice.now c.open_choice-opened.result c.open_choice-opened.ensures c.is_none.result c.is_none.ensures c.if-not-is_none.true))
+pub returns-in_err-opened : goal.returns-in_err-opened
+unfolding answered
+returns-in_err-opened c =
+    let passed : c.from_residual.result ≡ Err c.in_err-opened.field-0.0 = search (rules, c.from_residual.ensures) in
+    rw passed (route_refused c.args.file.now c.args.choice.now c.args.from c.args.to c.args.rows.now c.if-rows-lt63.false c.in_err-opened.field-0.0 c.in_err-opened.ensures.refusal)
 
-pub way_in-requires : goal.way_in-requires
-way_in-requires c =
-    let o = (goal.at.way_in-requires c).Else-not-is_none in
-    (ends o, room (goal.at.way_in-requires c).After-is_none, (hall o, choice o, columns o, ranged o, flags o))
+pub shortfall-shore-requires : goal.shortfall-shore-requires
+shortfall-shore-requires c =
+    let lanes_is = lanes_of (goal.at.shortfall-shore-requires c).In_ok-opened in
+    let o = c.in_ok-opened.opened in
+    (o.hall.lanes.ends.size, arcs-inside (hall_in c.args.file.now) o.hall.lanes lanes_is o.chosen c.of_rows-arcs.result (c.of_rows-arcs.ensures (hall_in c.args.file.now) lanes_is))
+
+-- the shore is the one that is missed
+shore_is : (c : After-shortfall-shore) → shore_of c.shortfall-shore.result ≡ missed (hall_in c.args.file.now) c.args.choice.now
+shore_is c =
+    let lanes_is = lanes_of (goal.at.After-shortfall-shore c).In_ok-opened in
+    let o = c.in_ok-opened.opened in
+    let got = c.in_ok-opened.ensures in
+    c.shortfall-shore.ensures ∙ arcs-missed (hall_in c.args.file.now) o.hall.lanes lanes_is o.chosen c.of_rows-arcs.result (c.of_rows-arcs.ensures (hall_in c.args.file.now) lanes_is)
+    c.args.choice.now (opening.ranged _ _ _ got) (opening.flags _ _ _ got)
+
+-- the lanes, the flags and the arcs are those of the hall and the choice
+opened : (c : After-shortfall-shore) → OpenedHall (hall_in c.args.file.now) c.args.choice.now c.in_ok-opened.opened.hall.lanes c.in_ok-opened.opened.chosen c.of_rows-arcs.result
+opened c =
+    let lanes_is = lanes_of (goal.at.After-shortfall-shore c).In_ok-opened in
+    let o = c.in_ok-opened.opened in
+    let got = c.in_ok-opened.ensures in
+    opened-hall (hall_in c.args.file.now) c.args.choice.now o.hall.lanes o.chosen c.of_rows-arcs.result lanes_is (opening.ranged _ _ _ got) (opening.flags _ _ _ got)
+    (c.of_rows-arcs.ensures (hall_in c.args.file.now) lanes_is)
+
+pub returns-then-not-inside : goal.returns-then-not-inside
+returns-then-not-inside c =
+    let lanes_is = lanes_of (goal.at.returns-then-not-inside c).In_ok-opened in
+    route_outside c.args.file.now c.args.choice.now c.args.from c.args.to c.args.rows.now c.if-rows-lt63.false (opening.unrefused _ _ _ c.in_ok-opened.ensures) _ lanes_is.junctions c.if-not-inside.true
+
+pub returns-in-Some : goal.returns-in-Some
+returns-in-Some c =
+    let at = goal.at.returns-in-Some c in
+    let lanes_is = lanes_of at.In_ok-opened in
+    route_missed c.args.file.now c.args.choice.now c.args.from c.args.to c.args.rows.now c.if-rows-lt63.false (opening.unrefused _ _ _ c.in_ok-opened.ensures) _ lanes_is.junctions c.if-not-inside.false
+    c.in-Some.shore (ap shore_of (sym c.in-Some.is) ∙ shore_is at.After-shortfall-shore)
+
+pub route-filled-requires : goal.route-filled-requires
+route-filled-requires c =
+    let at = goal.at.route-filled-requires c in
+    let o = c.in_ok-opened.opened in
+    let ends = inside_ends o.hall.lanes.n c.args.from c.args.to c.if-not-inside.false in
+    let same = (lanes_of at.In_ok-opened).junctions in (
+      ends.0,
+      ends.2,
+      c.if-rows-lt63.false,
+      (
+        hall_in c.args.file.now,
+        c.args.choice.now,
+        opened at.After-shortfall-shore,
+        omega (arith, ends.1, same),
+        omega (arith, ends.3, same),
+        none_joins c.args.file.now c.args.choice.now (ap shore_of (sym c.in_default.is) ∙ shore_is at.After-shortfall-shore),
+      ),
+    )
 
 pub returns : goal.returns
 returns c =
-    let o = (goal.at.returns c).Else-not-is_none in
-    let got = c.way_in in
-    let a = c.args in
-    route_found c.args.file.now c.args.choice.now a.from a.to a.rows.now (room (goal.at.returns c).After-is_none) (fine o) got.result _ (found o).hall.n (columns o).junctions got.ensures.0
-    (got.ensures.1 (hall o) (choice o) (columns o) (ranged o) (flags o))
+    let at = goal.at.returns c in
+    let o = c.in_ok-opened.opened in
+    let ends = inside_ends o.hall.lanes.n c.args.from c.args.to c.if-not-inside.false in
+    let same = (lanes_of at.In_ok-opened).junctions in
+    let met : none ≡ missed (hall_in c.args.file.now) c.args.choice.now = ap shore_of (sym c.in_default.is) ∙ shore_is at.After-shortfall-shore in
+    route_found c.args.file.now c.args.choice.now c.args.from c.args.to c.args.rows.now c.if-rows-lt63.false (opening.unrefused _ _ _ c.in_ok-opened.ensures) _ same c.if-not-inside.false
+    met c.route-filled.result _
+    (c.route-filled.ensures (hall_in c.args.file.now) c.args.choice.now (opened at.After-shortfall-shore) (omega (arith, ends.1, same)) (omega (arith, ends.3, same))
+    (none_joins c.args.file.now c.args.choice.now met))

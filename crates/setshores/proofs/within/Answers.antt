@@ -7,11 +7,11 @@ use Rattle.setshores.proofs.Columns.{filled_none, filled_more}
 use Rattle.setshores.proofs.within.Goals as goal
 
 pub loop-k-init : goal.loop-k-init
-loop-k-init c = (omega arith, filled_none _ _ _ refl)
+loop-k-init c = filled_none _ _ _ refl
 
 pub loop-k-preserved : goal.loop-k-preserved
-loop-k-preserved c = let l = c.loop-k in (omega arith, filled_more 64 _ l.k l.arcs _ (omega arith) refl l.invariant.1)
+loop-k-preserved c = filled_more 64 _ c.loop-k.k c.loop-k.arcs _ (omega arith) refl c.loop-k.invariant
 
 pub returns : goal.returns
 unfolding inside
-returns c = let l = c.loop-k in (l.invariant.1.long, λ j p q. l.invariant.1.at (j - 1) (omega arith))
+returns c = (c.loop-k.invariant.long, λ j p q. c.loop-k.invariant.at (j - 1) (omega arith))

@@ -4,6 +4,6 @@ use Rattle.shortest.proofs.Searching.{fewest_there}
 use Rattle.shortest.proofs.distances_to.Goals as goal
 
 pub returns : goal.returns
-returns c = let got = c.turned_round-back in let a = c.args in
+returns c = let turned = c.turned_round in let a = c.args in
     λ h d is inside e.
-    fewest_there h d (at a.arcs.now) (at got.result) is got.ensures a.to c.requires.0 inside c.reach.result _ _ c.reach.ensures e
+    fewest_there h d (at a.arcs.now) (at turned.result) is turned.ensures a.to c.requires.0 inside c.reach.result.set _ _ c.reach.ensures e

@@ -1,58 +1,66 @@
 -- `route` follows the table of first rows over the fewest rows to the target: as many steps as the start is far. Assumes nothing.
-use mathlib.Core.Path.{◌≡◌, refl, sym}
+use mathlib.Core.Path.{◌≡◌, sym, ap, ◌∙◌}
 use mathlib.Core.Bool.{true}
-use mathlib.Core.List.{List}
+use mathlib.Core.List.{List, ◌++◌}
 use Prim.Native.Nat.{ℕ, ◌≤◌}
 use native.Mathlib.Omega.{arith}
-use Rattle.laws.specs.Lists.{at}
+use lib.IntN.{ℤ}
+use lib.ListN.{length, take, drop}
+use Rattle.std.proofs.lemmas.List.{length-take-le}
+use Rattle.laws.specs.Lists.{at, in_front}
 use Rattle.hall.specs.Hall.{Hall, joins}
 use Rattle.routes.specs.Reached.{ArcsOf}
 use Rattle.shortest.specs.Steps.{OpenedHall, Guided}
+use Rattle.routes.specs.Route.{all_signed}
+use Rattle.shortest.proofs.Following.{signed-length}
 use Rattle.shortest.proofs.Guiding.{guided}
 use Rattle.shortest.proofs.route.Goals as goal
-use Rattle.shortest.proofs.route.Goals.{After-first_rows}
+use Rattle.shortest.proofs.route.Goals.{After-from-distance}
 
 pub distances_to-distances-requires : goal.distances_to-distances-requires
 unfolding ArcsOf
-distances_to-distances-requires c = let w = c.requires.4 in (c.requires.2, omega (arith, w.2.arcs.1, w.4))
+distances_to-distances-requires c = let w = c.requires.3 in (c.requires.1, omega (arith, w.2.arcs.1, w.4))
 
-pub first_rows-requires : goal.first_rows-requires
-first_rows-requires c = (c.requires.0, refl)
-
-pub distance-distance-requires : goal.distance-distance-requires
+pub distance-requires : goal.distance-requires
 unfolding ArcsOf
-distance-distance-requires c = let w = c.requires.4 in (c.requires.1, omega (arith, w.2.arcs.1, w.3))
-
-pub overflow_cast-from : goal.overflow_cast-from
-unfolding ArcsOf
-overflow_cast-from c = let w = c.requires.4 in record { fits = omega (arith, w.2.arcs.1, w.3) }
+distance-requires c = let w = c.requires.3 in (c.requires.0, omega (arith, w.2.arcs.1, w.3))
 
 -- the table guides to the target
-guiding : (c : After-first_rows) → let a = c.args in let D = at c.distances_to-distances.result in
-    (h : Hall) (e : List ℕ) → OpenedHall h e a.m a.tails.now a.heads.now a.chosen.now a.arcs.now → a.to ≤ h.n → joins h e ≡ true →
-    Guided h e a.to D a.tails.now a.heads.now c.first_rows.new.first
+guiding : (c : After-from-distance) → let a = c.args in let D = at c.distances_to-distances.result in
+    (h : Hall) (e : List ℕ) → OpenedHall h e a.lanes.now a.chosen.now a.arcs.now → a.to ≤ h.n → joins h e ≡ true →
+    Guided h e a.to D a.lanes.now c.first_rows-first.result
 unfolding ArcsOf
 guiding c h e hall inside joined = let a = c.args in
-    guided h h.n a.m a.tails.now a.heads.now a.chosen.now e hall.columns hall.flags (at c.distances_to-distances.result) hall.arcs.1 hall.arcs.0 a.to
-    (λ x l u. (c.distances_to-distances.ensures h e hall.arcs inside joined x l u).0) _ c.first_rows.ensures c.requires.0.few
+    guided h a.lanes.now a.chosen.now e hall.columns hall.flags (at c.distances_to-distances.result) hall.arcs.1 hall.arcs.0 a.to
+    (λ x l u. (c.distances_to-distances.ensures h e hall.arcs inside joined x l u).0) _ c.first_rows-first.ensures
+
+-- the list has room for the route
+room : (c : After-from-distance) → c.from-distance.result ≤ length c.args.rows.now
+room c = let a = c.args in let w = c.requires.3 in
+    omega (arith, (c.distances_to-distances.ensures w.0 w.1 w.2.arcs w.4 w.5 a.from c.requires.0 w.3).1, c.distance.ensures, c.from-distance.ensures, c.requires.2)
+
+-- its first places are as many as the start is far
+front : (c : After-from-distance) → let d = c.from-distance.result in (at c.distances_to-distances.result c.args.from ≡ d) × (length (take d c.args.rows.now) ≡ d)
+front c = (sym c.distance.ensures ∙ sym c.from-distance.ensures, length-take-le c.from-distance.result c.args.rows.now (room c))
+
+pub slice_bounds-follow-end : goal.slice_bounds-follow-end
+slice_bounds-follow-end c = room (goal.at.slice_bounds-follow-end c).After-from-distance
+
+pub slice_bounds-follow-end-2 : goal.slice_bounds-follow-end-2
+slice_bounds-follow-end-2 c = sym (front (goal.at.slice_bounds-follow-end-2 c).After-from-distance).1
 
 pub follow-requires : goal.follow-requires
-follow-requires c = let a = c.args in
-    let w = c.requires.4 in (
-      omega (arith, (c.distances_to-distances.ensures w.0 w.1 w.2.arcs w.4 w.5 a.from c.requires.1 w.3).1, c.distance-distance.ensures, c.requires.3),
-      (
-        w.0,
-        w.1,
-        a.to,
-        at c.distances_to-distances.result,
-        guiding (goal.at.follow-requires c).After-first_rows w.0 w.1 w.2 w.4 w.5,
-        c.requires.1,
-        w.3,
-        sym c.distance-distance.ensures,
-      ),
-    )
+follow-requires c = let a = c.args in let w = c.requires.3 in let p = (goal.at.follow-requires c).After-from-distance in let f = front p in
+    (w.0, w.1, a.to, at c.distances_to-distances.result, guiding p w.0 w.1 w.2 w.4 w.5, c.requires.0, w.3, f.0 ∙ sym f.1)
 
 pub returns : goal.returns
-returns c = let a = c.args in
-    λ h d hall from-inside to_inside e.
-    c.follow.ensures h d a.to (at c.distances_to-distances.result) (guiding (goal.at.returns c).After-first_rows h d hall to_inside e) c.requires.1 from-inside (sym c.distance-distance.ensures)
+unfolding in_front
+returns c = let a = c.args in let p = (goal.at.returns c).After-from-distance in let f = front p in
+    λ h e hall from_inside to_inside joined.
+    let got = c.follow.ensures h e a.to (at c.distances_to-distances.result) (guiding p h e hall to_inside joined) c.requires.0 from_inside (f.0 ∙ sym f.1) in
+    let long : length (all_signed got.0) ≡ c.from-distance.result = sym (ap length got.2) ∙ c.follow.auto.rows ∙ f.1 in (
+      got.0,
+      got.1,
+      sym long ∙ signed-length got.0,
+      ap (λ (l : List ℤ). l ++ drop c.from-distance.result a.rows.now) got.2 ∙ ap (λ (d : ℕ). all_signed got.0 ++ drop d a.rows.now) (sym long),
+    )

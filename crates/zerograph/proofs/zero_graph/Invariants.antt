@@ -1,13 +1,11 @@
--- Zero_graph adds the swaps of one junction a turn to the arcs of the rows. The invariant: the first x junctions have all their arcs, the others those of rows. The measure is the junctions to come. Assumes nothing.
-use Prim.Native.Nat.{◌-◌, ◌≤◌}
+-- Zero_graph adds the swaps of one junction a turn to the arcs of the rows. The invariant: the first x junctions have all their arcs, the others those of rows. Assumes nothing.
 use Rattle.laws.specs.Lists.{at}
 use Rattle.hall.specs.Hall.{Hall}
-use Rattle.columns.specs.Columns.{flagged, Columns, Neighbourhoods}
+use Rattle.columns.specs.Columns.{flagged, Neighbourhoods}
+use Rattle.columns.specs.Lanes.{LanesOf}
 use Rattle.zerograph.proofs.Swaps.{Swapped}
 use Rattle.zerograph.proofs.zero_graph.Given as goal
 
 abbrev pub invariant-loop-x : goal.invariant-loop-x
-invariant-loop-x l = (l.x ≤ l.n) × ((h : Hall) → Columns h l.n l.m l.tails l.heads → Neighbourhoods h (flagged l.chosen) l.around → Swapped h (flagged l.movable) (at l.costs) (at l.potential) (flagged l.chosen) l.x l.arcs)
-
-abbrev pub decreases-loop-x : goal.decreases-loop-x
-decreases-loop-x l = l.n - l.x
+invariant-loop-x l = (h : Hall) → LanesOf h l.network.lanes.now → Neighbourhoods h (flagged l.chosen) l.around →
+    Swapped h (flagged l.network.movable.now) (at l.network.costs.now.rows) (at l.network.potential.now) (flagged l.chosen) l.x l.arcs

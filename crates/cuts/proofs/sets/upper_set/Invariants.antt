@@ -1,8 +1,8 @@
--- `cuts::sets::upper_set` gathers the junctions whose potential is at least the threshold. The invariant: the set is gathered from the first k junctions. The measure is how many junctions are left. Assumes nothing.
+-- `cuts::sets::upper_set` gathers the junctions whose potential is at least the threshold. The invariant: the set is gathered from the first k junctions. Assumes nothing.
 use mathlib.Core.Path.{◌≡◌}
 use mathlib.Core.Bool.{Bool}
 use mathlib.Core.List.{List}
-use Prim.Native.Nat.{ℕ, ◌≤◌, ◌-◌}
+use Prim.Native.Nat.{ℕ}
 use lib.Dec.{leb}
 use Rattle.laws.specs.Lists.{at}
 use Rattle.junctions.specs.Sets.{gather}
@@ -13,7 +13,4 @@ abbrev pub high : (potential : List ℕ) → (threshold j : ℕ) → Bool
 high potential threshold j = leb threshold (at potential j)
 
 abbrev pub invariant-loop-k : goal.invariant-loop-k
-invariant-loop-k l = (l.k ≤ l.n) × (l.set ≡ gather l.k (high l.potential l.threshold))
-
-abbrev pub decreases-loop-k : goal.decreases-loop-k
-decreases-loop-k l = l.n - l.k
+invariant-loop-k l = l.set ≡ gather l.k (high l.potential l.threshold)

@@ -5,8 +5,8 @@ use Rattle.shorelist.specs.Listed.{Added}
 use Rattle.cuts.specs.Thresholds.{levels_weigh}
 use Rattle.cuts.proofs.thresholds.add_thresholds.Given as goal
 
-abbrev pub invariant-loop-low : goal.invariant-loop-low
-invariant-loop-low l = Added 0 l.initial.shores l.initial.weights (levels_weigh l.n (at l.links) (at l.mates) (at l.potential) l.low) l.filled l.shores l.weights
+abbrev pub invariant-loop-next : goal.invariant-loop-next
+invariant-loop-next l = Added 0 l.initial.shores l.initial.weights (levels_weigh l.n (at l.links) (at l.mates) (at l.potential) l.low) l.filled l.shores l.weights
 
-abbrev pub decreases-loop-low : goal.decreases-loop-low
-decreases-loop-low l = 2 ^ 32 - l.low
+abbrev pub decreases-loop-next : goal.decreases-loop-next
+decreases-loop-next l = 2 ^ 32 - l.low

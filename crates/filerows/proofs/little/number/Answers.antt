@@ -1,29 +1,28 @@
--- `filerows::little::number`: the goals that its invariants leave. Assumes nothing.
+-- `filerows::little::number`: the goals that its invariant leaves. Assumes nothing.
 use mathlib.Core.Path.{sym}
 use Prim.Native.Nat.{◌+◌, ◌-◌, ◌*◌, ◌^◌, ◌<◌}
 use native.Mathlib.Omega.{arith}
 use lib.Pow.{pow_pos}
 use Rattle.filerows.proofs.Fields.{field_none, field_back, byte_more, eight_bytes}
 use Rattle.filerows.proofs.little.number.Goals as goal
-use Rattle.filerows.proofs.little.number.Goals.{After-wide}
+use Rattle.filerows.proofs.little.number.Goals.{After-from}
 
 -- the value with one more byte is small
-more : (c : After-wide) → c.wide.result + 256 * c.loop-i.value < 2 ^ (8 * (c.args.width - (c.loop-i.i - 1)))
-more c = byte_more c.args.width c.loop-i.i c.loop-i.value c.wide.result (omega arith) c.loop-i.invariant.0 c.loop-i.invariant.2 (omega arith)
+more : (c : After-from) → c.from.result + 256 * c.loop-i.value < 2 ^ (8 * (c.args.at + c.args.width - (c.loop-i.i - 1)))
+more c = byte_more c.loop-i.i (c.args.at + c.args.width) c.loop-i.value c.from.result (omega arith) (omega arith) c.loop-i.invariant.2 (omega arith)
 
 pub loop-i-init : goal.loop-i-init
-loop-i-init c = let a = c.args in
-    (omega arith, sym (field_none a.bytes.now (a.at + a.width) (a.width - a.width) (omega arith)), pow_pos (8 * (a.width - a.width)))
+loop-i-init c = let e = c.args.at + c.args.width in (omega arith, sym (field_none c.args.bytes.now e (e - e) (omega arith)), pow_pos (8 * (e - e)))
 
 pub overflow_mul-value : goal.overflow_mul-value
-overflow_mul-value c = omega (arith, more (goal.at.overflow_mul-value c).After-wide, eight_bytes c.args.width (c.loop-i.i - 1) (omega arith))
+overflow_mul-value c = omega (arith, more c, eight_bytes (c.loop-i.i - 1) (c.args.at + c.args.width) (omega arith))
 
 pub overflow_add-value : goal.overflow_add-value
-overflow_add-value c = omega (arith, more (goal.at.overflow_add-value c).After-wide, eight_bytes c.args.width (c.loop-i.i - 1) (omega arith))
+overflow_add-value c = omega (arith, more c, eight_bytes (c.loop-i.i - 1) (c.args.at + c.args.width) (omega arith))
 
 pub loop-i-preserved : goal.loop-i-preserved
-loop-i-preserved c = let a = c.args in (
+loop-i-preserved c = (
   omega arith,
-  omega (arith, field_back a.bytes.now a.at a.width c.loop-i.i (omega arith) (omega arith) (omega arith)),
-  more (goal.at.loop-i-preserved c).After-wide,
+  omega (arith, field_back c.args.bytes.now c.loop-i.i (c.args.at + c.args.width) (omega arith) (omega arith) (omega arith)),
+  more c,
 )

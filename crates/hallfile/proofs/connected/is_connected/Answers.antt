@@ -8,18 +8,18 @@ use lib.ListN.{replicate, get_or-replicate}
 use Rattle.laws.specs.Lists.{at}
 use Rattle.junctions.specs.Sets.{full}
 use Rattle.digraph.proofs.Reaching.{reached_reach}
-use Rattle.columns.proofs.Ranged.{columns_ranged}
+use Rattle.columns.proofs.Ranged.{lanes_ranged}
 use Rattle.hallfile.proofs.Links.{reach_connected}
 use Rattle.hallfile.proofs.connected.is_connected.Goals as goal
 
 pub returns : goal.returns
-returns c = λ h cols.
-    let reach = c.reach-reached in
+returns c = λ h are.
+    let search = c.reach-search in
     let sets = c.of_rows-sets in
-    let hall = c.args.hall in
-    let size : full hall.n ≡ full h.n = ap full (sym cols.junctions) in
-    ap (eqb reach.result) (c.full.ensures ∙ size)
-    ∙ reach_connected h (columns_ranged h hall.n hall.count hall.tails hall.heads c.requires.0 c.requires.1 cols) (omega (arith, cols.junctions, c.requires.1.size))
-    (replicate 256 true) sets.result reach.result
-    (λ i p q. get_or-replicate 256 (i - 1) true false (omega (arith, cols.rows, c.requires.1.few)))
-    (sets.ensures h cols) (reached_reach 64 (at sets.result) 1 reach.result _ _ (omega arith) (omega arith) reach.ensures (omega arith))
+    let lanes = c.args.lanes.now in
+    let size : full lanes.n ≡ full h.n = ap full (sym are.junctions) in
+    ap (eqb search.result.set) (c.full.ensures ∙ size)
+    ∙ reach_connected h (lanes_ranged h lanes c.requires are) (omega (arith, are.junctions, lanes.ends.size))
+    (replicate 256 true) sets.result search.result.set
+    (λ i p q. get_or-replicate 256 (i - 1) true false (omega (arith, are.rows, lanes.ends.few)))
+    (sets.ensures h are) (reached_reach 64 (at sets.result) 1 search.result.set _ _ (omega arith) (omega arith) search.ensures (omega arith))

@@ -1,32 +1,18 @@
--- The goals that `ledger::listing::total_of` leaves open, by the lemmas and the invariant of its loop. Assumes nothing.
-use mathlib.Core.Path.{◌≡◌, refl, ap, ◌∙◌}
-use Prim.Native.Nat.{ℕ, ◌≤◌}
+-- `ledger::listing::total_of`: the goals that its invariant leaves. Assumes nothing.
+use mathlib.Core.Path.{refl, ◌∙◌}
 use native.Mathlib.Omega.{arith}
-use lib.ListN.{get_or}
-use mathlib.Core.Bool.{false, cond}
 use Rattle.laws.specs.Finite.{sum_below}
 use Rattle.ledger.proofs.Choices.{total_next, total_same}
 use Rattle.ledger.proofs.listing.total_of.Goals as goal
-use Rattle.ledger.proofs.listing.total_of.Goals.{In-loop-k, then-flags-k, else-flags-k}
-
--- the price of the row at hand
-small : (c : In-loop-k) → get_or c.args.prices.now c.loop-k.k 0 ≤ 1000000
-small c = c.requires.1 c.loop-k.k c.loop-k-test.true
+use Rattle.ledger.proofs.listing.total_of.Goals.{then-flags-k, else-flags-k}
 
 pub loop-k-init : goal.loop-k-init
 unfolding sum_below
-loop-k-init c = (omega arith, omega arith, refl)
-
-pub overflow_add-total : goal.overflow_add-total
-overflow_add-total c = record { fits = omega (arith, small (goal.at.overflow_add-total c).In-loop-k, c.loop-k.invariant.1, c.requires.0) }
+loop-k-init c = (refl, omega arith)
 
 pub loop-k-preserved : goal.loop-k-preserved
-loop-k-preserved c = let a = c.args in
+loop-k-preserved c = let prices = c.args.prices.now in let flags = c.args.flags.now in let l = c.loop-k in
     elim c.if-flags-k.branch [
-      | then-flags-k w ↦ (omega arith, omega (arith, w.total-is, small (goal.at.loop-k-preserved c).In-loop-k, c.loop-k.invariant.1), w.total-is ∙ total_next a.prices.now a.flags.now c.loop-k.k c.loop-k.total c.loop-k.invariant.2 w.if-flags-k.true)
-      | else-flags-k w ↦ (omega arith, omega (arith, w.total-is, c.loop-k.invariant.1), w.total-is ∙ total_same a.prices.now a.flags.now c.loop-k.k c.loop-k.total c.loop-k.invariant.2 w.if-flags-k.false)
+      | then-flags-k w ↦ (w.total-is ∙ total_next prices flags l.k l.total l.invariant.0 w.if-flags-k.true, omega (arith, w.total-is, c.requires.1 l.k c.loop-k-test.true))
+      | else-flags-k w ↦ (w.total-is ∙ total_same prices flags l.k l.total l.invariant.0 w.if-flags-k.false, omega (arith, w.total-is))
     ]
-
-pub returns : goal.returns
-returns c = let a = c.args in let e : c.loop-k.k ≡ a.m = omega arith in
-    c.loop-k.invariant.2 ∙ ap (λ (k : ℕ). sum_below k (λ (i : ℕ). cond (get_or a.flags.now i false) (get_or a.prices.now i 0) 0)) e

@@ -1,9 +1,7 @@
--- `smallhalls::file::bytes_of` ends, and takes and writes only rows that the hall has and the file has room for. The invariant: i is at most the row count. The measure is count - i. Assumes nothing.
-use Prim.Native.Nat.{◌≤◌, ◌-◌}
+-- `smallhalls::file::bytes_of`: the file has its 12 bytes of head and 8 for each row gone over. Assumes nothing.
+use Rattle.std.proofs.Common.{◌≡◌, ◌+◌, ◌*◌}
+use Rattle.arrayvec.specs.ArrayVec.{array_vec_len}
 use Rattle.smallhalls.proofs.file.bytes_of.Given as goal
 
-abbrev pub invariant-loop-i : goal.invariant-loop-i
-invariant-loop-i l = l.i ≤ l.count
-
-abbrev pub decreases-loop-i : goal.decreases-loop-i
-decreases-loop-i l = l.count - l.i
+abbrev pub invariant-loop-row : goal.invariant-loop-row
+invariant-loop-row l = array_vec_len l.file ≡ 12 + 8 * l.row-index

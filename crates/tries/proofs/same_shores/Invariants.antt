@@ -1,9 +1,0 @@
--- `tries::same_shores` ends and reads no place outside the lists. The invariant: i is at least the first place looked at. The measure is 126 - i. Assumes nothing.
-use Prim.Native.Nat.{◌≤◌, ◌-◌}
-use Rattle.tries.proofs.same_shores.Given as goal
-
-abbrev pub invariant-loop-i : goal.invariant-loop-i
-invariant-loop-i l = l.from ≤ l.i
-
-abbrev pub decreases-loop-i : goal.decreases-loop-i
-decreases-loop-i l = 126 - l.i

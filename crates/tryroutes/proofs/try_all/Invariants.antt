@@ -1,9 +1,0 @@
--- `tryroutes::try_all` ends and tries only halls that `with_choices` takes. The invariant: the number is at most 1000000000. The measure is what it lacks of that. Assumes nothing.
-use Rattle.std.proofs.Common.{◌-◌, ◌≤◌}
-use Rattle.tryroutes.proofs.try_all.Given as goal
-
-abbrev pub invariant-loop-number : goal.invariant-loop-number
-invariant-loop-number g l = l.number ≤ 1000000000
-
-abbrev pub decreases-loop-number : goal.decreases-loop-number
-decreases-loop-number g l = 1000000000 - l.number
