@@ -18,7 +18,8 @@ pub fn plan_lanes(
     ensures { LentSays file.now result rows.old rows.new cuts.old cuts.new
         levels.old levels.new }
 {
-    if cuts.len() < 125 {
+    let short = cuts.len() < 125;
+    if short {
         return Err(Kind::ListShort);
     }
     // two arrays, as `plan_core` fills two lists

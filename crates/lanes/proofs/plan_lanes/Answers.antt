@@ -8,19 +8,19 @@ use Rattle.lanes.proofs.Lent.{lent_short, lent_turned, few, lent_plan}
 use Rattle.lanes.proofs.plan_lanes.Goals as goal
 use Rattle.lanes.proofs.plan_lanes.Goals.{In_ok-planned}
 
-pub returns-then-cuts-lt125 : goal.returns-then-cuts-lt125
-returns-then-cuts-lt125 c = let a = c.args in lent_short a.file.now a.rows.now a.levels.now a.cuts.now c.if-cuts-lt125.true
+pub returns-then-short : goal.returns-then-short
+returns-then-short c = let a = c.args in lent_short a.file.now a.rows.now a.levels.now a.cuts.now c.if-short.true
 
 pub returns-in_err-planned : goal.returns-in_err-planned
 returns-in_err-planned c =
     let a = c.args in
     let passed : c.from_residual.result ≡ Err c.in_err-planned.field-0.0 = search (rules, c.from_residual.ensures) in
-    rw passed (lent_turned a.file.now a.rows.now a.levels.now a.cuts.now _ _ _ _ _ _ refl refl c.if-cuts-lt125.false c.in_err-planned.field-0.0 c.in_err-planned.ensures)
+    rw passed (lent_turned a.file.now a.rows.now a.levels.now a.cuts.now _ _ _ _ _ _ refl refl c.if-short.false c.in_err-planned.field-0.0 c.in_err-planned.ensures)
 
 -- the cuts fit into both arrays
 module _ (c : In_ok-planned) where
   shores_fit : c.in_ok-planned.planned.cuts ≤ length c.plan_core.new.shores
-  shores_fit = let a = c.args in few a.file.now a.rows.now a.levels.now a.cuts.now _ _ _ _ _ _ refl refl c.if-cuts-lt125.false c.in_ok-planned.planned c.in_ok-planned.ensures
+  shores_fit = let a = c.args in few a.file.now a.rows.now a.levels.now a.cuts.now _ _ _ _ _ _ refl refl c.if-short.false c.in_ok-planned.planned c.in_ok-planned.ensures
 
   weights_fit : c.in_ok-planned.planned.cuts ≤ length c.plan_core.new.weights
   weights_fit = omega (arith, shores_fit, c.plan_core.auto.shores, c.plan_core.auto.weights)
@@ -43,10 +43,10 @@ write_cuts-requires c =
     let long = length-take-le c.in_ok-planned.planned.cuts c.plan_core.new.shores (shores_fit o) in
     record {
       pairs = long ∙ sym (length-take-le c.in_ok-planned.planned.cuts c.plan_core.new.weights (weights_fit o));
-      room = omega (arith, long, shores_fit o, c.plan_core.auto.shores, c.if-cuts-lt125.false);
+      room = omega (arith, long, shores_fit o, c.plan_core.auto.shores, c.if-short.false);
     }
 
 pub returns : goal.returns
 returns c =
     let a = c.args in
-    rw c.write_cuts.ensures (lent_plan a.file.now a.rows.now a.levels.now a.cuts.now _ _ _ _ _ _ refl refl c.if-cuts-lt125.false c.in_ok-planned.planned c.in_ok-planned.ensures)
+    rw c.write_cuts.ensures (lent_plan a.file.now a.rows.now a.levels.now a.cuts.now _ _ _ _ _ _ refl refl c.if-short.false c.in_ok-planned.planned c.in_ok-planned.ensures)

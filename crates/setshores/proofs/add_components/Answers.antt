@@ -35,15 +35,15 @@ module _ (c : After-reach-component) where
   reached : Reach 64 (at c.within-inside.result) (2 ^ count_trailing_zeros 64 c.loop-left.left) c.reach-component.result.set
   reached = lowest_reach (at c.within-inside.result) c.loop-left.left c.reach-component.result.set _ _ some c.loop-left.invariant.fits (omega (arith, c.reach-component.type_inv)) c.reach-component.ensures
 
-  fits : Fits c.loop-left.filled c.loop-left.shores c.loop-left.weights (alone (bit_xor c.full-all.result.0 (bit_and c.full-all.result.0 c.reach-component.result.set)) c.args.weight)
-  fits = components_fits c.args.class c.args.weight c.full-all.ensures c.requires.0 c.loop-left.invariant c.requires.2 some arcs_inside reached c.requires.3
+  fits : Fits c.loop-left.filled c.loop-left.shores c.loop-left.weights (alone (bit_and c.full-all.result.0 (18446744073709551615 - c.reach-component.result.set)) c.args.weight)
+  fits = rw outside_it (components_fits c.args.class c.args.weight c.full-all.ensures c.requires.0 c.loop-left.invariant c.requires.2 some arcs_inside reached c.requires.3)
 
-  less : bit_xor c.loop-left.left (bit_and c.loop-left.left c.reach-component.result.set) < c.loop-left.left
-  less = components_less c.args.class c.args.weight c.full-all.ensures c.requires.0 c.loop-left.invariant c.requires.2 some arcs_inside reached
+  less : bit_and c.loop-left.left (18446744073709551615 - c.reach-component.result.set) < c.loop-left.left
+  less = rw rest_is (components_less c.args.class c.args.weight c.full-all.ensures c.requires.0 c.loop-left.invariant c.requires.2 some arcs_inside reached)
 
-  more : {count : ℕ} {shores weights : List ℕ} → Added c.loop-left.filled c.loop-left.shores c.loop-left.weights (alone (bit_xor c.full-all.result.0 (bit_and c.full-all.result.0 c.reach-component.result.set)) c.args.weight) count shores weights
-      → Components c.args.n (at c.args.links.now) c.args.class c.args.weight c.args.count c.args.shores.now c.args.weights.now (bit_xor c.loop-left.left (bit_and c.loop-left.left c.reach-component.result.set)) count shores weights
-  more = components_more c.args.class c.args.weight c.full-all.ensures c.requires.0 c.loop-left.invariant c.requires.2 some arcs_inside reached
+  more : {count : ℕ} {shores weights : List ℕ} → Added c.loop-left.filled c.loop-left.shores c.loop-left.weights (alone (bit_and c.full-all.result.0 (18446744073709551615 - c.reach-component.result.set)) c.args.weight) count shores weights
+      → Components c.args.n (at c.args.links.now) c.args.class c.args.weight c.args.count c.args.shores.now c.args.weights.now (bit_and c.loop-left.left (18446744073709551615 - c.reach-component.result.set)) count shores weights
+  more added = rw rest_is (components_more c.args.class c.args.weight c.full-all.ensures c.requires.0 c.loop-left.invariant c.requires.2 some arcs_inside reached (rw outside_it at added))
 
 pub loop-left-init : goal.loop-left-init
 loop-left-init c =
@@ -61,17 +61,17 @@ reach-component-requires c = (omega arith, omega (arith, trailing_lt 64 c.loop-l
 pub add-filled-requires : goal.add-filled-requires
 add-filled-requires c =
     let found = (goal.at.add-filled-requires c).After-reach-component in
-    (c.requires.1, rw (outside_it found) (fits found))
+    (c.requires.1, fits found)
 
 pub loop-left-smaller : goal.loop-left-smaller
 loop-left-smaller c =
     let found = (goal.at.loop-left-smaller c).After-reach-component in
-    rw (rest_is found) (less found)
+    less found
 
 pub loop-left-preserved : goal.loop-left-preserved
 loop-left-preserved c =
     let found = (goal.at.loop-left-preserved c).After-reach-component in
-    rw (rest_is found) (more found (rw (outside_it found) at c.add-filled.ensures))
+    more found c.add-filled.ensures
 
 pub shape_of-shores : goal.shape_of-shores
 shape_of-shores c = c.loop-left.invariant.adding.shores_size
