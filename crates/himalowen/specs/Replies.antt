@@ -1,15 +1,15 @@
 -- What a caller in another language reads: each reply as numbers, in the order of its fields. Assumes nothing: these are definitions.
 use Rattle.std.specs.Prelude.{◌≡◌, List, [], ◌∷◌, ℕ, ℤ, Result}
+use Rattle.hall.specs.File.{Refusal}
 use Rattle.refusals.specs.declared.Kind.{Kind}
 use Rattle.refusals.specs.Kinds.{answered, figure}
 use Rattle.answers.specs.declared.Finding.{Finding}
 use Rattle.routing.specs.declared.Way.{Way}
-use Rattle.planning.specs.declared.Planned.{Planned}
 use Rattle.answers.specs.Answers.{outcome_of, set_of}
 use Rattle.checking.specs.Check.{CheckSays}
 use Rattle.neighbourhood.specs.Tight.{TightSays}
 use Rattle.routing.specs.Route.{way_outcome, way_set, way_filled, RouteSays}
-use Rattle.planning.specs.Plan.{PlanSays}
+use Rattle.oneplan.specs.Plan.{RowsSays, PairSays}
 
 -- number, row, outcome, set
 unfoldable pub told_places : Result Finding Kind → List ℕ
@@ -19,12 +19,6 @@ told_places t = (answered t).number ∷ (answered t).place ∷ figure outcome_of
 unfoldable pub routed_places : Result Way Kind → List ℕ
 routed_places r =
     (answered r).number ∷ (answered r).place ∷ figure way_outcome r ∷ figure way_set r ∷ figure way_filled r ∷ []
-
--- number, row, chosen, cuts, levels, total
-unfoldable pub planned_places : Result Planned Kind → List ℕ
-planned_places r =
-    (answered r).number ∷ (answered r).place ∷ figure (λ (p : Planned). p.chosen) r ∷ figure (λ (p : Planned). p.cuts) r
-    ∷ figure (λ (p : Planned). p.levels) r ∷ figure (λ (p : Planned). p.total) r ∷ []
 
 -- the reply's places are those of an answer of the check; its number is returned
 unfoldable pub CheckLeaves : (bs c : List ℕ) → (returned : ℕ) → (reply : List ℕ) → Type 0
@@ -39,7 +33,10 @@ unfoldable pub RouteLeaves : (bs c : List ℕ) → (a b returned : ℕ) → (rep
 RouteLeaves bs c a b r x old new =
     (t : Result Way Kind) × RouteSays bs c a b t old new × (x ≡ routed_places t) × (r ≡ (answered t).number)
 
--- the same for the plan, with the lent lists before and after
-unfoldable pub PlanLeaves : List ℕ → (returned : ℕ) → (reply : List ℕ) → (a a_now b b_now c c_now : List ℕ) → (d d_now : List ℤ) → Type 0
-PlanLeaves bs r v a x b y q z d w =
-    (t : Result Planned Kind) × PlanSays bs t a x b y q z d w × (v ≡ planned_places t) × (r ≡ (answered t).number)
+-- the same for the rows' call: number, row, chosen and total, with the lent list before and after
+unfoldable pub RowsLeaves : List ℕ → (returned : ℕ) → (reply before after : List ℕ) → Type 0
+RowsLeaves bs r v a x = (f : Refusal) × (k t : ℕ) × RowsSays bs f k t a x × (v ≡ f.number ∷ f.place ∷ k ∷ t ∷ []) × (r ≡ f.number)
+
+-- and for the cuts' call: number, row, cuts and levels, with the lent lists before and after
+unfoldable pub PairLeaves : List ℕ → (returned : ℕ) → (reply a a_now b b_now : List ℕ) → (d d_now : List ℤ) → Type 0
+PairLeaves bs r v a x b y d w = (f : Refusal) × (q l : ℕ) × PairSays bs f q l a x b y d w × (v ≡ f.number ∷ f.place ∷ q ∷ l ∷ []) × (r ≡ f.number)

@@ -1,12 +1,15 @@
 // The calls of the C library, as include/himalowen.h declares them: a reply is an array of numbers, in the order of its fields. `himalowen_c` exports them.
 #![tactic(auto)]
 
-ghost use Rattle.std.specs.Prelude.{◌≡◌, ◌∷◌, ◌-◌, ◌≤◌, replicate};
-ghost use Rattle.refusals.specs.Kinds.{refusal_of, answered};
-ghost use Rattle.himalowen.specs.Replies.{CheckLeaves, TightLeaves, RouteLeaves, PlanLeaves, told_places, routed_places, planned_places};
+ghost use Rattle.std.specs.Prelude.{◌≡◌, [], ◌∷◌, ◌-◌, ◌≤◌, replicate};
+ghost use Rattle.refusals.specs.Kinds.{refusal_of, answered, figure};
+ghost use Rattle.planrows.specs.declared.PlannedRows.{PlannedRows};
+ghost use Rattle.planpairs.specs.declared.PlannedCuts.{PlannedCuts};
+ghost use Rattle.himalowen.specs.Replies.{CheckLeaves, TightLeaves, RouteLeaves, RowsLeaves, PairLeaves, told_places, routed_places};
 
 use answers::Finding;
-use planning::Planned;
+use planpairs::PlannedCuts;
+use planrows::PlannedRows;
 use refusals::Kind;
 use routing::Way;
 
@@ -32,7 +35,7 @@ fn refused<const N: usize>(kind: Kind) -> [u64; N]
     places
 }
 
-// Each of the three replies has figures of its own; number, row and zeros of a refusal are written in `refused` alone.
+// Each of the replies has figures of its own; number, row and zeros of a refusal are written in `refused` alone.
 #[tactic(auto, unfolding(crate::specs::Replies::told_places, refusals::specs::Kinds::answered, refusals::specs::Kinds::figure, hall::specs::File::refusal))]
 fn told_places(told: Result<Finding, Kind>) -> [u64; 4]
     ensures { result ≡ told_places told }
@@ -53,19 +56,24 @@ fn routed_places(routed: Result<Way, Kind>) -> [u64; 5]
     }
 }
 
-#[tactic(auto, unfolding(crate::specs::Replies::planned_places, refusals::specs::Kinds::answered, refusals::specs::Kinds::figure, hall::specs::File::refusal))]
-fn planned_places(planned: Result<Planned, Kind>) -> [u64; 6]
-    ensures { result ≡ planned_places planned }
+#[tactic(auto, unfolding(refusals::specs::Kinds::answered, refusals::specs::Kinds::figure, hall::specs::File::refusal))]
+fn rows_places(planned: Result<PlannedRows, Kind>) -> [u64; 4]
+    ensures { result ≡ (answered planned).number ∷ (answered planned).place
+        ∷ figure (λ (p : PlannedRows). p.chosen) planned ∷ figure (λ (p : PlannedRows). p.total) planned ∷ [] }
 {
     match planned {
-        Ok(plan) => [
-            0,
-            0,
-            u64::from(plan.chosen),
-            u64::from(plan.cuts),
-            u64::from(plan.levels),
-            u64::from(plan.total),
-        ],
+        Ok(rows) => [0, 0, u64::from(rows.chosen), u64::from(rows.total)],
+        Err(kind) => refused(kind),
+    }
+}
+
+#[tactic(auto, unfolding(refusals::specs::Kinds::answered, refusals::specs::Kinds::figure, hall::specs::File::refusal))]
+fn cuts_places(planned: Result<PlannedCuts, Kind>) -> [u64; 4]
+    ensures { result ≡ (answered planned).number ∷ (answered planned).place
+        ∷ figure (λ (p : PlannedCuts). p.cuts) planned ∷ figure (λ (p : PlannedCuts). p.levels) planned ∷ [] }
+{
+    match planned {
+        Ok(cuts) => [0, 0, u64::from(cuts.cuts), u64::from(cuts.levels)],
         Err(kind) => refused(kind),
     }
 }
@@ -104,19 +112,27 @@ pub fn himalowen_route(
     number_of(routed)
 }
 
-#[tactic(auto, unfolding(crate::specs::Replies::PlanLeaves))]
-pub fn himalowen_plan(
+#[tactic(auto, unfolding(crate::specs::Replies::RowsLeaves))]
+pub fn himalowen_plan_rows(file: &[u8], rows: &mut [u32], reply: &mut [u64; 4]) -> u32
+    ensures { RowsLeaves file.now result reply.new rows.old rows.new }
+{
+    let planned = planrows::plan_rows(file, rows);
+    *reply = rows_places(planned);
+    number_of(planned)
+}
+
+#[tactic(auto, unfolding(crate::specs::Replies::PairLeaves))]
+pub fn himalowen_plan_cuts(
     file: &[u8],
-    rows: &mut [u32],
     shores: &mut [u64],
     weights: &mut [u32],
     levels: &mut [i32],
-    reply: &mut [u64; 6],
+    reply: &mut [u64; 4],
 ) -> u32
-    ensures { PlanLeaves file.now result reply.new rows.old rows.new
-        shores.old shores.new weights.old weights.new levels.old levels.new }
+    ensures { PairLeaves file.now result reply.new shores.old shores.new
+        weights.old weights.new levels.old levels.new }
 {
-    let planned = planning::plan_core(file, rows, shores, weights, levels);
-    *reply = planned_places(planned);
+    let planned = planpairs::plan_pairs(file, shores, weights, levels);
+    *reply = cuts_places(planned);
     number_of(planned)
 }

@@ -1,7 +1,7 @@
 // The exports of libhimalowen.a, as include/himalowen.h declares them: each is the call of that name in `himalowen`, with its promise.
 #![tactic(auto)]
 
-ghost use Rattle.himalowen.specs.Replies.{CheckLeaves, TightLeaves, RouteLeaves, PlanLeaves};
+ghost use Rattle.himalowen.specs.Replies.{CheckLeaves, TightLeaves, RouteLeaves, RowsLeaves, PairLeaves};
 
 #[unsafe(no_mangle)]
 pub extern "C" fn himalowen_check(file: &[u8], choice: &[u32], reply: &mut [u64; 4]) -> u32
@@ -37,16 +37,22 @@ pub extern "C" fn himalowen_route(
 }
 
 #[unsafe(no_mangle)]
-pub extern "C" fn himalowen_plan(
+pub extern "C" fn himalowen_plan_rows(file: &[u8], rows: &mut [u32], reply: &mut [u64; 4]) -> u32
+    ensures { RowsLeaves file.now result reply.new rows.old rows.new }
+{
+    himalowen::himalowen_plan_rows(file, rows, reply)
+}
+
+#[unsafe(no_mangle)]
+pub extern "C" fn himalowen_plan_cuts(
     file: &[u8],
-    rows: &mut [u32],
     shores: &mut [u64],
     weights: &mut [u32],
     levels: &mut [i32],
-    reply: &mut [u64; 6],
+    reply: &mut [u64; 4],
 ) -> u32
-    ensures { PlanLeaves file.now result reply.new rows.old rows.new
-        shores.old shores.new weights.old weights.new levels.old levels.new }
+    ensures { PairLeaves file.now result reply.new shores.old shores.new
+        weights.old weights.new levels.old levels.new }
 {
-    himalowen::himalowen_plan(file, rows, shores, weights, levels, reply)
+    himalowen::himalowen_plan_cuts(file, shores, weights, levels, reply)
 }

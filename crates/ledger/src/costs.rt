@@ -1,4 +1,4 @@
-// Costs from prices and marks, and a potential for the ranked costs.
+// Costs from prices and marks.
 ghost use Rattle.std.specs.Prelude.{◌≡◌, ℕ, ◌+◌, ◌*◌, ◌^◌, ◌≤◌, ◌<◌, get_or};
 ghost use Rattle.order.specs.Ranked.{charge_of};
 ghost use Rattle.columns.specs.Prices.{PricesLow};
@@ -43,16 +43,4 @@ pub fn ranked_costs(m: usize, prices: &[u32; 256], fixed: &[bool; 256]) -> Costs
     ensures { Padded 256 (λ (k : ℕ). 257 * charged prices.now fixed.now k + 1) m result.rows }
 {
     costs(m, prices, fixed, 257, 1)
-}
-
-// The potential, every level 257 times as high.
-pub fn scaled(potential: &[u64; 64]) -> [u64; 64]
-    requires { (k : ℕ) → k < 64 → get_or potential.now k 0 < 2 ^ 32 }
-    ensures { Padded 64 (λ (k : ℕ). 257 * get_or potential.now k 0) 64 result }
-{
-    let mut levels = [0u64; 64];
-    for j in 0..64 {
-        levels[j] = 257 * potential[j];
-    }
-    levels
 }

@@ -1,4 +1,4 @@
-// The figures of a plan: costs from prices and marks, scaled potentials, and a choice as a list of rows with its total.
+// The figures of a plan: costs from prices and marks, and a choice as a list of rows with its total.
 #![tactic(auto)]
 
 pub mod costs;

@@ -1,4 +1,4 @@
--- From the prices and marks of an accepted hall to the costs of both stages: the rows that are not fixed are a start at the charges, and what is least there is a start at the ranked costs. Assumes nothing.
+-- From the prices and marks of an accepted hall to the costs of both calls: the rows that are not fixed are a start at the charges and at the ranked costs. Assumes nothing.
 use mathlib.Core.Path.{◌≡◌, refl, ap, ap₂, ◌∙◌}
 use mathlib.Core.Bool.{Bool, false, not}
 use mathlib.Core.List.{List}
@@ -83,46 +83,3 @@ module _ (h : Hall) (x : HallRecord) (rd : Accepted h x) where
     pub costs_ranked : (i : ℕ) → 1 ≤ i → i ≤ x.lanes.count → at costs i ≡ ranked h i
     unfolding ranked
     costs_ranked i l u = filled.first (i - 1) (omega arith) ∙ ap (λ (z : ℕ). 257 * z + 1) (are_charges i l (omega (arith, rd.columns.rows)))
-
-  -- at the ranked costs, from what is least at the charges
-  module _ (s : State) (least : Least h s) where
-    pub level_low : (k : ℕ) → k < 64 → get_or s.potential k 0 < 2 ^ 32
-    level_low k l =
-        let e : suc k - 1 ≡ k = omega arith in
-        let here : at s.potential (suc k) ≡ get_or s.potential k 0 = ap (λ (z : ℕ). get_or s.potential z 0) e in
-        omega (arith, least.low (suc k) (omega arith) (omega arith))
-
-    module _ (costs : List ℕ) (filled : Padded 256 (λ k. 257 * charged x.prices x.fixed k + 1) x.lanes.count costs) (levels : List ℕ) (scaled : Padded 64 (λ k. 257 * get_or s.potential k 0) 64 levels) where
-      ranked-cost : (i : ℕ) → 1 ≤ i → i ≤ count h → at costs i ≡ 257 * charge h i + 1
-      ranked-cost i l u = filled.first (i - 1) (omega (arith, rd.columns.rows)) ∙ ap (λ (z : ℕ). 257 * z + 1) (are_charges i l u)
-
-      pub ranked-at : (i : ℕ) → 1 ≤ i → i ≤ x.lanes.count → at costs i ≡ ranked h i
-      unfolding ranked
-      ranked-at i l u = ranked-cost i l (omega (arith, rd.columns.rows))
-
-      level_at : (j : ℕ) → 1 ≤ j → j ≤ 64 → at levels j ≡ 257 * at s.potential j
-      level_at j l u = scaled.first (j - 1) (omega arith)
-
-      inside : (j : ℕ) → 1 ≤ j → j ≤ h.n → at levels j ≡ 257 * at s.potential j
-      inside j l u = level_at j l (omega (arith, rd.columns.junctions, x.lanes.ends.size))
-
-      pub ranked_can : Repairable h (at costs) (at levels) (flagged s.chosen)
-      ranked_can = ranked_repairable h rd.ranged (charge h) (at s.potential) (flagged s.chosen) 257 (at costs) (at levels) ranked-cost inside least.repaired
-
-      pub ranked_begin : RepairStart x.lanes costs (record { chosen = s.chosen; potential = levels; around = s.around })
-      ranked_begin =
-          record {
-            hall = h;
-            columns = rd.columns;
-            ranged = rd.ranged;
-            repairable = ranked_can;
-            around = least.around;
-            bound = λ j l u.
-                omega (
-                  arith,
-                  level_at j l u,
-                  least.low j l u,
-                  rd.able.few,
-                  ranked-slack h rd.ranged (charge h) (at s.potential) (flagged s.chosen) 257 (at costs) (at levels) ranked-cost inside least.repaired,
-                );
-          }

@@ -85,12 +85,6 @@ module _ (h : Hall) (ln : Lanes) (costs : List ℕ) (rows chosen : List Bool) (r
       low = λ j l u. omega (arith, end.bound j l u, zero_level j l u, slack_rows);
     }
 
--- where repair ends, levels are below 2 to the power 61
-pub end_low :
-    (ln : Lanes) (costs : List ℕ) (s t : State) (from : RepairStart ln costs s) → length t.potential ≡ 64 → RepairEnd from.hall (at costs) s t →
-    (j : ℕ) → get_or t.potential j 0 < 2 ^ 61
-end_low ln costs s t from long end = levels_below (2 ^ 61) t.potential (omega arith) long (λ j l u. omega (arith, end.bound j l u, from.bound j l u))
-
 -- at costs that are the ranked ones, what is repaired is repaired at these
 pub ranked_repaired :
     (h : Hall) (ln : Lanes) → LanesOf h ln → Ranged h → (costs : List ℕ) → ((i : ℕ) → 1 ≤ i → i ≤ ln.count → at costs i ≡ ranked h i) → (s : State) →

@@ -34,21 +34,8 @@ pub fn cheapest(lanes: &Lanes, costs: &Costs, rows: [bool; 256]) -> State
     repair::repair(lanes, costs, state)
 }
 
-// From a joining choice and levels for the ranked costs, with its neighbourhoods, to the first choice: least total, fewest rows, then
-// dictionary order.
-pub fn first_choice(lanes: &Lanes, costs: &Costs, state: State) -> [bool; 256]
-    requires { RepairStart lanes.now costs.now.rows state }
-    ensures { (h : Hall) → LanesOf h lanes.now → Ranged h → Plannable h →
-        ((i : ℕ) → 1 ≤ i → i ≤ lanes.now.count → at costs.now.rows i ≡ ranked h i) →
-        Repairable h (at costs.now.rows) (at state.potential) (flagged state.chosen) → Neighbourhoods h (flagged state.chosen) state.around →
-        First h (listed h (flagged result)) }
-{
-    let repaired = repair::repair(lanes, costs, state);
-    first::decide_all(lanes, costs, repaired)
-}
-
 // From rows that join, at the ranked costs, to the first choice: least total, fewest rows, then dictionary order.
-pub fn first_from_rows(lanes: &Lanes, costs: &Costs, rows: [bool; 256]) -> [bool; 256]
+pub fn first_choice(lanes: &Lanes, costs: &Costs, rows: [bool; 256]) -> [bool; 256]
     requires modest { Modest costs.now.rows }
     requires ready { (h : Hall) × Ready h lanes.now rows }
     ensures { (h : Hall) → Ready h lanes.now rows → Plannable h →

@@ -41,12 +41,13 @@ pub fn plan_rows(file: &[u8], rows: &mut [u32]) -> Result<PlannedRows, Kind>
     ensures { RowsSays file.now (answered result) (figure (λ (p : PlannedRows). p.chosen) result) (figure (λ (p : PlannedRows). p.total) result)
         rows.old rows.new }
 {
-    if rows.len() < 256 {
+    let short = rows.len() < 256;
+    if short {
         return Err(Kind::ListShort);
     }
     let hall = hallfile::read_hall(file)?;
     let costs = ledger::costs::ranked_costs(hall.lanes.count, &hall.prices, &hall.fixed);
     let unfixed = choice::unflagged(&hall.fixed);
-    let first = plan::first_from_rows(&hall.lanes, &costs, unfixed);
+    let first = plan::first_choice(&hall.lanes, &costs, unfixed);
     Ok(list_first(&hall, &first, rows))
 }

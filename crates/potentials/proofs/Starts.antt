@@ -1,4 +1,4 @@
--- Where repair may start: from the potential 0, and again from what it ended with, after all costs are multiplied and 1 is added to each. Assumes nothing.
+-- Where repair may start: from the potential 0. Assumes nothing.
 use mathlib.Core.Path.{◌≡◌}
 use mathlib.Core.Bool.{Bool, true, cond}
 use Prim.Native.Nat.{ℕ, suc, ◌+◌, ◌-◌, ◌*◌, ◌≤◌}
@@ -52,53 +52,3 @@ module _ (h : Hall) (rg : Ranged h) (c p : ℕ → ℕ) (F : ℕ → Bool) where
         by_bool (F (suc k))
         (λ t. rw t (omega (arith, none (row h (suc k)).from (rg.from_low (suc k) (omega arith) l) (rg.from_high (suc k) (omega arith) l))))
         (λ t. rw t (omega arith)))
-
-  -- costs a times as high and 1 more, and a potential a times as high
-  module _ (a : ℕ) (d q : ℕ → ℕ) (costs : (i : ℕ) → 1 ≤ i → i ≤ count h → d i ≡ a * c i + 1) (levels : (j : ℕ) → 1 ≤ j → j ≤ h.n → q j ≡ a * p j)
-      (end : Repaired h c p F) where
-    from_level : (i : ℕ) → 1 ≤ i → i ≤ count h → q (row h i).from ≡ a * p (row h i).from
-    from_level i l u = levels (row h i).from (rg.from_low i l u) (rg.from_high i l u)
-
-    to_level : (i : ℕ) → 1 ≤ i → i ≤ count h → q (row h i).to ≡ a * p (row h i).to
-    to_level i l u = levels (row h i).to (rg.to_low i l u) (rg.to_high i l u)
-
-    pub ranked_repairable : Repairable h d q F
-    unfolding Under Parted
-    ranked_repairable =
-        record {
-          joining = end.joining;
-          under = λ i l u.
-              omega (
-                arith,
-                costs i l u,
-                from_level i l u,
-                to_level i l u,
-                mul-le-mul_left {m = p (row h i).to} {n = p (row h i).from + c i} a (end.under i l u),
-              );
-          parted = λ v u lv kv lu ku less.
-              end.parted v u lv kv lu ku
-              (by_bool (ltb (p u) (p v)) (λ t. ltb-true (p u) (p v) t)
-              (λ t. absurd (omega (arith, levels v lv kv, levels u lu ku, mul-le-mul_left {m = p v} {n = p u} a (ltb-false (p u) (p v) t)))));
-        }
-
-    -- each chosen row has a gap of at most 1
-    pub ranked-slack : slack h d q F ≤ count h
-    unfolding slack Paid gap
-    ranked-slack =
-        omega (
-          arith,
-          sum_constant (count h) 1,
-          sum_le (count h) (λ k. cond (F (suc k)) (q (row h (suc k)).from + d (suc k) - q (row h (suc k)).to) 0) (λ k. 1)
-              (λ k l.
-              by_bool (F (suc k))
-              (λ t.
-              rw t
-              (omega (
-                arith,
-                costs (suc k) (omega arith) l,
-                from_level (suc k) (omega arith) l,
-                to_level (suc k) (omega arith) l,
-                mul-le-mul_left {m = p (row h (suc k)).from + c (suc k)} {n = p (row h (suc k)).to} a (end.paid (suc k) (omega arith) l t),
-              )))
-              (λ t. rw t (omega arith))),
-        )

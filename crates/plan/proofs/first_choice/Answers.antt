@@ -1,15 +1,14 @@
--- `plan::first_choice` repairs at the ranked costs and decides row by row. Assumes nothing.
+-- `plan::first_choice` finds a choice of least ranked cost and decides row by row. Assumes nothing.
 use Rattle.std.proofs.Common.{rules}
-use Rattle.plan.proofs.Stages.{end_low, ranked_repaired}
+use Rattle.plan.proofs.Stages.{cheapest_low, ranked_repaired}
 use Rattle.plan.proofs.first_choice.Goals as goal
 
 pub decide_all-requires : goal.decide_all-requires
-decide_all-requires c = let from = c.requires in let end = c.repair-repaired in
-    end_low c.args.lanes.now c.args.costs.now.rows c.args.state end.result from (search rules)
-    (end.ensures from.hall from.columns from.ranged from.repairable from.around)
+decide_all-requires c = let h = c.requires.ready.0 in let rd = c.requires.ready.1 in let found = c.cheapest-state in
+    cheapest_low h c.args.lanes.now c.args.costs.now.rows c.args.rows rd c.requires.modest found.result (search rules) (found.ensures h rd)
 
 pub returns : goal.returns
-returns c = λ h lanes rg able costs can near.
-    let end = c.repair-repaired.ensures h lanes rg can near in
-    c.decide_all.ensures h lanes rg able costs
-    (ranked_repaired h c.args.lanes.now lanes rg c.args.costs.now.rows costs c.repair-repaired.result end.repaired) end.around
+returns c = λ h rd able costs.
+    let least = c.cheapest-state.ensures h rd in
+    c.decide_all.ensures h rd.columns rd.ranged able costs
+    (ranked_repaired h c.args.lanes.now rd.columns rd.ranged c.args.costs.now.rows costs c.cheapest-state.result least.repaired) least.around

@@ -25,34 +25,34 @@ unfixed : (c : After-unflagged-unfixed) → Ready (hall_in c.args.file.now) c.in
 unfixed c =
     unfixed_ready (hall_in c.args.file.now) c.in_ok-hall.hall (accepted (goal.at.After-unflagged-unfixed c).In_ok-hall) c.unflagged-unfixed.result c.unflagged-unfixed.ensures.1
 
-pub returns-then-rows-lt256 : goal.returns-then-rows-lt256
-returns-then-rows-lt256 c = says_short c.args.file.now c.args.rows.now c.if-rows-lt256.true
+pub returns-then-short : goal.returns-then-short
+returns-then-short c = says_short c.args.file.now c.args.rows.now c.if-short.true
 
 pub returns-in_err-hall : goal.returns-in_err-hall
 unfolding answered
 returns-in_err-hall c =
     let passed : c.from_residual.result ≡ Err c.in_err-hall.field-0.0 = search (rules, c.from_residual.ensures) in
-    rw passed (says_refused c.args.file.now c.args.rows.now c.if-rows-lt256.false c.in_err-hall.field-0.0 c.in_err-hall.ensures.refusal)
+    rw passed (says_refused c.args.file.now c.args.rows.now c.if-short.false c.in_err-hall.field-0.0 c.in_err-hall.ensures.refusal)
 
 pub ranked_costs-costs-requires : goal.ranked_costs-costs-requires
 ranked_costs-costs-requires c = let x = c.in_ok-hall.hall in (x.lanes.ends.few, x.prices_low)
 
-pub first_from_rows-first-requires : goal.first_from_rows-first-requires
-first_from_rows-first-requires c =
-    let at = goal.at.first_from_rows-first-requires c in
+pub first_choice-first-requires : goal.first_choice-first-requires
+first_choice-first-requires c =
+    let at = goal.at.first_choice-first-requires c in
     record {
       modest = ranked_modest (hall at.In_ok-hall) c.in_ok-hall.hall (accepted at.In_ok-hall) c.ranked_costs-costs.result.rows c.ranked_costs-costs.ensures;
       ready = (hall at.In_ok-hall, unfixed at.After-unflagged-unfixed);
     }
 
 pub list_first-requires : goal.list_first-requires
-list_first-requires c = c.if-rows-lt256.false
+list_first-requires c = c.if-short.false
 
 pub returns : goal.returns
 unfolding answered
 returns c =
     let at = goal.at.returns c in
     let h = hall at.In_ok-hall in let x = c.in_ok-hall.hall in let rd = accepted at.In_ok-hall in
-    says_rows c.args.file.now c.args.rows.now c.if-rows-lt256.false c.in_ok-hall.ensures.refusal c.list_first.result _
+    says_rows c.args.file.now c.args.rows.now c.if-short.false c.in_ok-hall.ensures.refusal c.list_first.result _
     (c.list_first.ensures h rd
-    (c.first_from_rows-first.ensures h (unfixed at.After-unflagged-unfixed) rd.able (costs_ranked h x rd c.ranked_costs-costs.result.rows c.ranked_costs-costs.ensures)))
+    (c.first_choice-first.ensures h (unfixed at.After-unflagged-unfixed) rd.able (costs_ranked h x rd c.ranked_costs-costs.result.rows c.ranked_costs-costs.ensures)))
