@@ -1,13 +1,12 @@
--- The rows of the hall of a record stand in its columns; the cuts of two lists stand side by side; the hall of the record of a hall is the hall. Assumes nothing.
+-- The rows of the hall of a record stand in its columns, and the hall of the record of a hall is the hall. Assumes nothing.
 use mathlib.Core.Path.{◌≡◌, refl, ap, ap₂, ◌∙◌}
 use mathlib.Core.Bool.{Bool, true, false}
-use mathlib.Core.List.{List, [], ◌∷◌}
+use mathlib.Core.List.{List}
 use Prim.Native.Nat.{ℕ, zero, suc, ◌+◌, ◌-◌, ◌≤◌, ◌<◌}
 use native.Mathlib.Omega.{arith}
 use lib.ListN.{length, get_or}
 use lib.Seq.{ext_get_or}
 use Rattle.hall.specs.Hall.{Row, Hall, row_of, hall, row, count, is_choice}
-use Rattle.hall.specs.Plan.{Cut, cut}
 use Rattle.dicuts.proofs.Choices.{choice_ascends}
 use Rattle.hallfile.specs.declared.record.HallRecord.{HallRecord}
 use Rattle.hallfile.specs.Record.{RecordOf}
@@ -15,7 +14,7 @@ use Rattle.hallfile.proofs.Columns.{column-at}
 use Rattle.choice.proofs.Ascent.{ascends_at}
 use Rattle.lines.specs.Lines.{four_line}
 use Rattle.printing.specs.Printed.{row_line}
-use Rattle.printing.specs.Recorded.{row_in_columns, rows_from, hall_of, paired}
+use Rattle.printing.specs.Recorded.{row_in_columns, rows_from, hall_of}
 
 module _ (t h p : List ℕ) (x : List Bool) where
   rows_length : (i k : ℕ) → length (rows_from t h p x i k) ≡ k
@@ -56,19 +55,6 @@ module _ (r : HallRecord) where
   -- a choice of the hall has numbers of the record's rows
   pub choice_at : (ns : List ℕ) (k : ℕ) → is_choice (hall_of r) ns ≡ true → k < length ns → (1 ≤ get_or ns k 0) × (get_or ns k 0 ≤ r.lanes.count)
   choice_at ns k e l = let w = ascends_at 1 (count (hall_of r)) ns k (choice_ascends (hall_of r) ns e) l in (w.0, omega (arith, w.1, hall-count))
-
-pub cuts-length : (ss ws : List ℕ) → length ss ≡ length ws → length (paired ss ws) ≡ length ss
-unfolding paired
-cuts-length [] ws e = refl
-cuts-length (s ∷ ss) [] e = absurd (omega arith)
-cuts-length (s ∷ ss) (w ∷ ws) e = ap suc (cuts-length ss ws (omega arith))
-
-pub cuts-at : (ss ws : List ℕ) (d : Cut) (i : ℕ) → length ss ≡ length ws → i < length ss → get_or (paired ss ws) i d ≡ cut (get_or ss i 0) (get_or ws i 0)
-unfolding paired
-cuts-at [] ws d i e l = absurd (omega arith)
-cuts-at (s ∷ ss) [] d i e l = absurd (omega arith)
-cuts-at (s ∷ ss) (w ∷ ws) d zero e l = refl
-cuts-at (s ∷ ss) (w ∷ ws) d (suc i) e l = cuts-at ss ws d i (omega arith) (omega arith)
 
 -- the hall of a record of a hall is the hall
 module _ (h : Hall) (r : HallRecord) (is : RecordOf h r) where

@@ -1,7 +1,7 @@
--- The hall of a record, and the cuts of two lists. Assumes nothing: these are definitions.
+-- The hall of a record, and what can be printed of it. Assumes nothing: these are definitions.
 use Rattle.std.specs.Prelude.{◌≡◌, Bool, true, false, List, [], ◌∷◌, ℕ, zero, suc, ◌≤◌, ℤ, length, get_or}
 use Rattle.hall.specs.Hall.{Row, Hall, hall, is_choice}
-use Rattle.hall.specs.Plan.{Cut, cut}
+use Rattle.cutlist.specs.declared.Cut.{Cut}
 use Rattle.hallfile.specs.declared.record.HallRecord.{HallRecord}
 
 -- the row at place i of the columns
@@ -17,15 +17,8 @@ rows_from t h p x i (suc k) = row_in_columns t h p x i ∷ rows_from t h p x (su
 unfoldable pub hall_of : HallRecord → Hall
 hall_of r = hall r.lanes.n (rows_from r.lanes.tails r.lanes.heads r.prices r.fixed 0 r.lanes.count)
 
--- THE CUTS of a list of shores and a list of weights
-unfoldable pub paired : (shores weights : List ℕ) → List Cut
-paired [] ws = []
-paired (s ∷ ss) [] = []
-paired (s ∷ ss) (w ∷ ws) = cut s w ∷ paired ss ws
-
--- PRINTABLE: a hall, a choice of its rows, and as many shores as weights, within the limits
-pub record Printable (r : HallRecord) (rows shores weights : List ℕ) (levels : List ℤ) : Type 0 where
+-- PRINTABLE: a hall, a choice of its rows, cuts and levels within the limits
+pub record Printable (r : HallRecord) (rows : List ℕ) (ks : List Cut) (levels : List ℤ) : Type 0 where
   pub choice : is_choice (hall_of r) rows ≡ true
-  pub cuts : length shores ≤ 125
-  pub paired : length shores ≡ length weights
+  pub cuts : length ks ≤ 125
   pub leveled : length levels ≤ 64

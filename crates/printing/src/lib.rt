@@ -1,15 +1,17 @@
 // The printed list of a plan, or the line of a refusal, as a text: specs/Printed.antt says its bytes.
-// It stands on the lines of `lines`, the record of `hallfile` and the kinds of `refusals`.
+// It stands on the lines of `lines`, the record of `hallfile`, the cuts of `cutlist` and the kinds of `refusals`.
 #![tactic(auto)]
 
 ghost use Rattle.std.specs.Prelude.{◌≡◌, true, ◌++◌, ◌+◌, ◌*◌, ◌≤◌, length};
+ghost use Rattle.cutlist.specs.Cuts.{cuts_of};
 ghost use Rattle.hall.specs.Hall.{is_choice};
 ghost use Rattle.hall.specs.File.{refusal};
 ghost use Rattle.lines.specs.Lines.{cut_line, level_item};
 ghost use Rattle.printing.specs.Printed.{row_line, choice_lines, cut_lines, levels_line, printed_plan, printed_refusal};
-ghost use Rattle.printing.specs.Recorded.{hall_of, paired, Printable};
+ghost use Rattle.printing.specs.Recorded.{hall_of, Printable};
 ghost use Rattle.refusals.specs.Kinds.{refusal_of};
 
+use cutlist::Cut;
 use hallfile::HallRecord;
 use lines::Text;
 use refusals::Kind;
@@ -39,16 +41,15 @@ fn push_choice(text: &mut List, hall: &HallRecord, rows: &[u32])
 
 // The lines of the cuts: how many there are, then each cut's line.
 #[tactic(auto, unfolding(lines::specs::Lines::text, crate::specs::Printed::cut_lines, crate::specs::Printed::cuts_word))]
-fn push_cuts(text: &mut List, n: usize, shores: &[u64], weights: &[u32])
+fn push_cuts(text: &mut List, n: usize, cuts: &[Cut])
     requires n_bound { n ≤ 64 }
-    requires pairs { length shores.now ≡ length weights.now }
-    requires room { length text.old + 26 + 203 * length shores.now ≤ 65536 }
-    ensures appended { text.new ≡ text.old ++ cut_lines n (paired shores.now weights.now) }
-    ensures short { length text.new ≤ length text.old + 26 + 203 * length shores.now }
+    requires room { length text.old + 26 + 203 * length cuts.now ≤ 65536 }
+    ensures appended { text.new ≡ text.old ++ cut_lines n (cuts_of cuts.now) }
+    ensures short { length text.new ≤ length text.old + 26 + 203 * length cuts.now }
 {
-    text.push_number_line(b"CUTS ", shores.len() as u64);
-    for (shore, weight) in shores.iter().zip(weights) {
-        text.push_cut_line(n, *shore, *weight);
+    text.push_number_line(b"CUTS ", cuts.len() as u64);
+    for cut in cuts {
+        text.push_cut_line(n, cut.shore.0, cut.weight);
     }
 }
 
@@ -67,23 +68,16 @@ fn push_levels(text: &mut List, levels: &[i32])
 
 // The printed list of a plan.
 #[tactic(auto, unfolding(lines::specs::Lines::text, crate::specs::Printed::printed_plan, crate::specs::Printed::hall_word, crate::specs::Printed::total_word))]
-pub fn print_plan(
-    hall: &HallRecord,
-    rows: &[u32],
-    total: u32,
-    shores: &[u64],
-    weights: &[u32],
-    levels: &[i32],
-) -> List
-    requires { Printable hall.now rows.now shores.now weights.now levels.now }
-    ensures { result ≡ printed_plan (hall_of hall.now) rows.now total (paired shores.now weights.now) levels.now }
+pub fn print_plan(hall: &HallRecord, rows: &[u32], total: u32, cuts: &[Cut], levels: &[i32]) -> List
+    requires { Printable hall.now rows.now cuts.now levels.now }
+    ensures { result ≡ printed_plan (hall_of hall.now) rows.now total (cuts_of cuts.now) levels.now }
 {
     let n = hall.lanes.n;
     let mut text = Text::new();
     text.push_pair_line(b"HALL ", n as u64, hall.lanes.count as u64);
     push_choice(&mut text, hall, rows);
     text.push_number_line(b"TOTAL ", u64::from(total));
-    push_cuts(&mut text, n, shores, weights);
+    push_cuts(&mut text, n, cuts);
     push_levels(&mut text, levels);
     text
 }

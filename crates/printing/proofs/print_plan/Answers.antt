@@ -4,13 +4,14 @@ use mathlib.Core.List.{[], ◌∷◌}
 use lib.IntN.{ℤ}
 use Rattle.std.proofs.Common.{List, ap, ap₂, ◌≡◌, length, length-append, arith}
 use Rattle.std.proofs.lemmas.Grind.{common_steps}
+use Rattle.cutlist.specs.Cuts.{cuts_of}
 use Rattle.dicuts.proofs.Choices.{choice_length}
 use Rattle.hall.specs.Plan.{Cut}
 use Rattle.hallfile.specs.declared.record.HallRecord.{HallRecord}
 use Rattle.lines.specs.Lines.{text, number_line, pair_line}
 use Rattle.lines.proofs.Lines.{number_line_short, pair_line_short}
 use Rattle.printing.specs.Printed.{printed_plan, choice_lines, cut_lines, levels_line, hall_word, total_word}
-use Rattle.printing.specs.Recorded.{hall_of, paired}
+use Rattle.printing.specs.Recorded.{hall_of}
 use Rattle.printing.proofs.Recorded.{hall-count, hall_junctions}
 use Rattle.printing.proofs.print_plan.Goals as goal
 use Rattle.printing.proofs.print_plan.Goals.{After-push_choice, After-push_cuts, After-push_number_line, After-push_pair_line, Start}
@@ -63,7 +64,7 @@ plan_parts r c t ks ls =
 pub returns : goal.returns
 unfolding hall_word total_word text
 returns c =
-    let parts = plan_parts c.args.hall.now c.args.rows.now c.args.total (paired c.args.shores.now c.args.weights.now) c.args.levels.now in
+    let parts = plan_parts c.args.hall.now c.args.rows.now c.args.total (cuts_of c.args.cuts.now) c.args.levels.now in
     let d = c.push_choice.ensures.appended in
     let f = c.push_cuts.ensures.appended in
     grind (arith, common_steps)
