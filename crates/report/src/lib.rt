@@ -3,27 +3,32 @@
 
 ghost use Rattle.report.specs.Report.{ListSays, ReportSays};
 
+use cutlist::Cut;
+use junctions::Junctions;
+use planrows::PlannedRows;
 use printing::List;
 use refusals::Kind;
 use std::io;
 
-// The list of the plan of a file's hall.
+// The list of a file's hall: its rows and their total by the rows' call, the cuts and levels by the cuts' call.
 fn plan_list(file: &[u8]) -> Result<List, Kind>
     ensures { ListSays file.now result }
 {
     let mut rows = [0; 256];
-    let mut shores = [0; 125];
-    let mut weights = [0; 125];
+    let PlannedRows { chosen, total } = planrows::plan_rows(file, &mut rows)?;
+    let none = Cut {
+        shore: Junctions::EMPTY,
+        weight: 0,
+    };
+    let mut cuts = [none; 125];
     let mut levels = [0; 64];
-    let planned = planning::plan_core(file, &mut rows, &mut shores, &mut weights, &mut levels)?;
+    let planned = plancuts::plan_cuts(file, &mut cuts, &mut levels)?;
     let hall = hallfile::read_hall(file)?;
-    let cuts = planned.cuts as usize;
     Ok(printing::print_plan(
         &hall,
-        &rows[..planned.chosen as usize],
-        planned.total,
-        &shores[..cuts],
-        &weights[..cuts],
+        &rows[..chosen as usize],
+        total,
+        &cuts[..planned.cuts as usize],
         &levels[..planned.levels as usize],
     ))
 }
