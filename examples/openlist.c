@@ -1,4 +1,4 @@
-/* Plans a hall file and prints the list: openlist HALL
+/* Plans a hall file, its rows in one call and its cuts in another, and prints the list: openlist HALL
  *
  *     tools/build himalowen
  *     cc -O2 -I include -o openlist examples/openlist.c target/staticlib/libhimalowen.a
@@ -13,7 +13,8 @@ static uint32_t rows[HIMALOWEN_ROW_PLACES];
 static uint64_t shores[HIMALOWEN_CUT_PLACES];
 static uint32_t weights[HIMALOWEN_CUT_PLACES];
 static int32_t levels[HIMALOWEN_LEVEL_PLACES];
-static uint64_t reply[HIMALOWEN_PLANNED_PLACES];
+static uint64_t of_rows[HIMALOWEN_PLANNED_PLACES];
+static uint64_t of_cuts[HIMALOWEN_PLANNED_PLACES];
 
 static uint32_t number(size_t at, int width)
 {
@@ -43,19 +44,19 @@ static size_t row_place(uint32_t i)
 
 static void print_rows(void)
 {
-    printf("HALL %" PRIu64 " %" PRIu32 "\n", reply[HIMALOWEN_LEVELS], row_count());
-    printf("OPEN %" PRIu64 "\n", reply[HIMALOWEN_CHOSEN]);
-    for (uint64_t k = 0; k < reply[HIMALOWEN_CHOSEN]; k++) {
+    printf("HALL %" PRIu64 " %" PRIu32 "\n", of_cuts[HIMALOWEN_LEVELS], row_count());
+    printf("OPEN %" PRIu64 "\n", of_rows[HIMALOWEN_CHOSEN]);
+    for (uint64_t k = 0; k < of_rows[HIMALOWEN_CHOSEN]; k++) {
         size_t at = row_place(rows[k]);
         printf("%" PRIu32 " %" PRIu32 " %" PRIu32 " %" PRIu32 "\n", rows[k], number(at, 2), number(at + 2, 2), number(at + 4, 4));
     }
-    printf("TOTAL %" PRIu64 "\n", reply[HIMALOWEN_TOTAL]);
+    printf("TOTAL %" PRIu64 "\n", of_rows[HIMALOWEN_TOTAL]);
 }
 
 static void print_cuts(void)
 {
-    printf("CUTS %" PRIu64 "\n", reply[HIMALOWEN_CUTS]);
-    for (uint64_t k = 0; k < reply[HIMALOWEN_CUTS]; k++) {
+    printf("CUTS %" PRIu64 "\n", of_cuts[HIMALOWEN_CUTS]);
+    for (uint64_t k = 0; k < of_cuts[HIMALOWEN_CUTS]; k++) {
         printf("%" PRIu32, weights[k]);
         for (int j = 1; j <= 64; j++)
             if (shores[k] >> (j - 1) & 1)
@@ -67,7 +68,7 @@ static void print_cuts(void)
 static void print_levels(void)
 {
     printf("LEVELS");
-    for (uint64_t j = 0; j < reply[HIMALOWEN_LEVELS]; j++)
+    for (uint64_t j = 0; j < of_cuts[HIMALOWEN_LEVELS]; j++)
         printf(" %" PRId32, levels[j]);
     printf("\n");
 }
@@ -85,11 +86,13 @@ int main(int count, char **words)
         return 1;
     }
     fclose(in);
-    if (himalowen_plan(file, size, rows, HIMALOWEN_ROW_PLACES, shores, HIMALOWEN_CUT_PLACES, weights, HIMALOWEN_CUT_PLACES,
-                       levels, HIMALOWEN_LEVEL_PLACES, reply)) {
-        printf("REFUSED %" PRIu64 " %" PRIu64 "\n", reply[HIMALOWEN_NUMBER], reply[HIMALOWEN_ROW]);
+    if (himalowen_plan_rows(file, size, rows, HIMALOWEN_ROW_PLACES, of_rows)) {
+        printf("REFUSED %" PRIu64 " %" PRIu64 "\n", of_rows[HIMALOWEN_NUMBER], of_rows[HIMALOWEN_ROW]);
         return 0;
     }
+    /* The cuts' call refuses no file that the rows' call accepts. */
+    himalowen_plan_cuts(file, size, shores, HIMALOWEN_CUT_PLACES, weights, HIMALOWEN_CUT_PLACES, levels,
+                        HIMALOWEN_LEVEL_PLACES, of_cuts);
     print_rows();
     print_cuts();
     print_levels();

@@ -25,7 +25,7 @@ extern "C" {
 enum {
     HIMALOWEN_TOLD_PLACES = 4,
     HIMALOWEN_ROUTED_PLACES = 5,
-    HIMALOWEN_PLANNED_PLACES = 6,
+    HIMALOWEN_PLANNED_PLACES = 4,
     HIMALOWEN_ROW_PLACES = 256,
     HIMALOWEN_CUT_PLACES = 125,
     HIMALOWEN_LEVEL_PLACES = 64,
@@ -38,8 +38,11 @@ enum { HIMALOWEN_NUMBER = 0, HIMALOWEN_ROW = 1 };
 /* Places of the reply of himalowen_check, himalowen_tight and himalowen_route, and of the last alone the filled length. */
 enum { HIMALOWEN_OUTCOME = 2, HIMALOWEN_SET = 3, HIMALOWEN_FILLED = 4 };
 
-/* Places of the reply of himalowen_plan: three filled lengths and the total. */
-enum { HIMALOWEN_CHOSEN = 2, HIMALOWEN_CUTS = 3, HIMALOWEN_LEVELS = 4, HIMALOWEN_TOTAL = 5 };
+/* Places of the reply of himalowen_plan_rows: how many rows are filled in, and their total. */
+enum { HIMALOWEN_CHOSEN = 2, HIMALOWEN_TOTAL = 3 };
+
+/* Places of the reply of himalowen_plan_cuts: how many cuts, and how many levels, are filled in. */
+enum { HIMALOWEN_CUTS = 2, HIMALOWEN_LEVELS = 3 };
 
 /* Outcomes. The set is the missed shore or the neighbourhood, else 0. */
 enum { HIMALOWEN_JOINS = 1, HIMALOWEN_MISSES = 2, HIMALOWEN_AROUND = 3, HIMALOWEN_ROUTE = 4 };
@@ -65,13 +68,22 @@ uint32_t himalowen_route(const uint8_t *file, size_t file_length,
                          int32_t *rows, size_t rows_length,
                          uint64_t reply[HIMALOWEN_ROUTED_PLACES]);
 
-/* The first joining choice by total, row count and dictionary order, the cuts beside it, and the level of each junction. */
-uint32_t himalowen_plan(const uint8_t *file, size_t file_length,
-                        uint32_t *rows, size_t rows_length,
-                        uint64_t *shores, size_t shores_length,
-                        uint32_t *weights, size_t weights_length,
-                        int32_t *levels, size_t levels_length,
-                        uint64_t reply[HIMALOWEN_PLANNED_PLACES]);
+/* A plan is asked for in two calls, in any order, and either may be left out. For the same file both speak of one plan: the
+ * weights of himalowen_plan_cuts add up to the total of himalowen_plan_rows. Refusal 1 looks in each call only at the lists
+ * lent to it: in the rows' call at the rows, in the cuts' call at the shores, the weights and the levels. Any other refusal
+ * of a file is the same in both. */
+
+/* The first joining choice by total, row count and dictionary order, and its total. */
+uint32_t himalowen_plan_rows(const uint8_t *file, size_t file_length,
+                             uint32_t *rows, size_t rows_length,
+                             uint64_t reply[HIMALOWEN_PLANNED_PLACES]);
+
+/* The cuts beside that choice, each a shore and a weight, and the level of each junction. */
+uint32_t himalowen_plan_cuts(const uint8_t *file, size_t file_length,
+                             uint64_t *shores, size_t shores_length,
+                             uint32_t *weights, size_t weights_length,
+                             int32_t *levels, size_t levels_length,
+                             uint64_t reply[HIMALOWEN_PLANNED_PLACES]);
 
 #ifdef __cplusplus
 }

@@ -2,7 +2,7 @@
 use mathlib.Core.Path.{◌≡◌, refl, ap, ap₂, ◌∙◌}
 use mathlib.Core.Bool.{Bool, false, not}
 use mathlib.Core.List.{List}
-use Prim.Native.Nat.{ℕ, suc, ◌+◌, ◌*◌, ◌-◌, ◌^◌, ◌<◌, ◌≤◌}
+use Prim.Native.Nat.{ℕ, ◌+◌, ◌*◌, ◌-◌, ◌<◌, ◌≤◌}
 use native.Mathlib.Omega.{arith}
 use lib.Dec.{ltb}
 use lib.ListN.{get_or}
@@ -12,9 +12,7 @@ use Rattle.laws.proofs.Booleans.{by_bool}
 use Rattle.hall.specs.Hall.{Hall, count}
 use Rattle.dicuts.specs.Shores.{unfixed_row}
 use Rattle.joining.proofs.Joining.{joining_mono}
-use Rattle.potentials.specs.Repair.{Repairable}
 use Rattle.potentials.proofs.Same.{cost_same, cost_rows_same, repaired_same}
-use Rattle.potentials.proofs.Starts.{ranked_repairable, ranked-slack}
 use Rattle.order.specs.Ranked.{charge_of, charge, ranked}
 use Rattle.order.proofs.Ranked.{charge_most}
 use Rattle.certificates.proofs.Charges.{rest_cheap}
@@ -22,7 +20,6 @@ use Rattle.columns.specs.Columns.{flagged}
 use Rattle.choice.proofs.Marked.{opposite_unfixed}
 use Rattle.hallfile.specs.declared.record.HallRecord.{HallRecord}
 use Rattle.repair.specs.declared.State.{State}
-use Rattle.repair.specs.Repairs.{RepairStart}
 use Rattle.ledger.specs.Padded.{Padded, charged}
 use Rattle.plan.specs.Ready.{Modest, Ready, Cheapest, Accepted, Least}
 

@@ -1,6 +1,6 @@
 -- What the cuts' call leaves in two number lists is what it promises with its cuts lent as structs. Assumes nothing.
 use mathlib.Core.Path.{◌≡◌, refl, sym, ap, ap₂, ◌∙◌}
-use mathlib.Core.Bool.{false, cond}
+use mathlib.Core.Bool.{false}
 use mathlib.Core.List.{List, map}
 use Prim.Native.Nat.{ℕ, zero, suc, ◌≤◌, ◌<◌}
 use native.Mathlib.Omega.{arith}
@@ -12,7 +12,6 @@ use Rattle.std.specs.Prelude.{Result, Ok, Err}
 use Rattle.laws.specs.Lists.{in_front}
 use Rattle.laws.proofs.Booleans.{clash, cond_true, cond_false}
 use Rattle.laws.proofs.Lists.{front_fits, front_are}
-use Rattle.hall.specs.Hall.{Hall}
 use Rattle.hall.specs.File.{Refusal, hall_in, hall_refusal, refusal}
 use Rattle.hall.specs.Plan as plan
 use Rattle.refusals.specs.declared.Kind.{Kind}
@@ -47,7 +46,7 @@ module _ (bs : List ℕ) (b : List Cut) (d : List ℤ) where
 
   -- a list of cuts that is too short
   pub says_short : length b < 125 → Says (Err ListShort) b d
-  unfolding CutsSays answered figure room_for refusal_of
+  unfolding CutsSays answered figure room_for refusal_of refusal
   says_short l = (
     sym (cond_true (ltb (length b) 125) (refusal 1 0) (room_for 64 (length d) (hall_refusal bs)) (lt-ltb (length b) 125 l)),
     short_as 1 refl,
@@ -70,12 +69,12 @@ module _ (bs : List ℕ) (b : List Cut) (d : List ℤ) where
 
     refused_as : (n : ℕ) → eqb n 0 ≡ false → PairAs n (hall_in bs) 0 0 p x q y d w → CutsAs lent n (hall_in bs) 0 0 b b d w
     unfolding CutsAs PairAs
-    refused_as zero f as = clash refl f
-    refused_as (suc n) f as = (refl, refl, refl, as.4)
+    refused_as zero f was = clash refl f
+    refused_as (suc n) f was = (refl, refl, refl, was.4)
 
     pub says_refused : (k : Kind) → SaysPairs (Err k) → Says (Err k) b w
     unfolding PairSays CutsSays answered figure
-    says_refused k (why, as) = (why ∙ same_refusal, refused_as (refusal_of k).number (kind_number k).0 as)
+    says_refused k (why, was) = (why ∙ same_refusal, refused_as (refusal_of k).number (kind_number k).0 was)
 
     module _ (c : PlannedCuts) where
       pub few : SaysPairs (Ok c) → c.cuts ≤ length x

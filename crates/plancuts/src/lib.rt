@@ -12,11 +12,7 @@ use refusals::Kind;
 
 // Cuts beside the first joining choice and the levels of the junctions, from the front of the lent lists: refusal 1 where one is too
 // short (125 and 64 places), then 2 to 9 and 15.
-pub fn plan_cuts(
-    file: &[u8],
-    cuts: &mut [Cut],
-    levels: &mut [i32],
-) -> Result<PlannedCuts, Kind>
+pub fn plan_cuts(file: &[u8], cuts: &mut [Cut], levels: &mut [i32]) -> Result<PlannedCuts, Kind>
     ensures { CutsSays lent file.now (answered result) (figure (λ (p : PlannedCuts). p.cuts) result) (figure (λ (p : PlannedCuts). p.levels) result)
         cuts.old cuts.new levels.old levels.new }
 {

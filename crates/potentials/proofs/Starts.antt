@@ -2,17 +2,14 @@
 use mathlib.Core.Path.{◌≡◌}
 use mathlib.Core.Bool.{Bool, true, cond}
 use Prim.Native.Nat.{ℕ, suc, ◌+◌, ◌-◌, ◌*◌, ◌≤◌}
-use native.Mathlib.Nat.{mul-le-mul_left}
 use native.Mathlib.Omega.{arith}
-use lib.Dec.{ltb}
-use borrow.Author.Tests.{ltb-true, ltb-false}
 use Rattle.laws.proofs.Booleans.{by_bool}
 use Rattle.laws.proofs.DoubleSums.{sum_constant}
 use Rattle.laws.proofs.Finite.{sum_le}
 use Rattle.hall.specs.Hall.{Hall, row, count}
 use Rattle.dicuts.specs.Shores.{Ranged, once, Joining}
-use Rattle.potentials.specs.Potential.{Under, Paid, Parted, gap, slack, cost}
-use Rattle.potentials.specs.Repair.{Repairable, Repaired}
+use Rattle.potentials.specs.Potential.{Under, Parted, gap, slack, cost}
+use Rattle.potentials.specs.Repair.{Repairable}
 
 -- more rows cost no less
 pub cost_mono : (h : Hall) (c : ℕ → ℕ) (F G : ℕ → Bool) → ((i : ℕ) → 1 ≤ i → i ≤ count h → F i ≡ true → G i ≡ true) → cost h c F ≤ cost h c G

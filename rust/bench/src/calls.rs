@@ -4,24 +4,26 @@ use std::hint::black_box;
 use std::time::Instant;
 
 use compare::{Lists, Planner};
+use reference::Counts;
 
 pub const RUNS: usize = 9;
 
-/// A hall, the plan's choice for it, and the flips and raises that the plan took.
+/// A hall, the plan's choice for it, and the flips and raises that each of the plan's calls took.
 pub struct Case {
     file: Vec<u8>,
     n: usize,
     choice: Vec<u32>,
-    pub flips: f64,
-    pub raises: f64,
+    rows: Counts,
+    cuts: Counts,
 }
 
 impl Case {
     pub fn new(file: Vec<u8>, n: usize, lent: &mut Lists) -> Case {
         let Lists { rows, shores, weights, levels } = lent;
-        let planned = reference::plan_into(&file, rows, shores, weights, levels).expect("full halls are accepted");
-        let choice = rows[..planned.chosen].to_vec();
-        Case { file, n, choice, flips: planned.counts.flips.into(), raises: planned.counts.raises.into() }
+        let of_rows = reference::plan_rows_into(&file, rows).expect("full halls are accepted");
+        let of_cuts = reference::plan_cuts_into(&file, shores, weights, levels).expect("full halls are accepted");
+        let choice = rows[..of_rows.chosen].to_vec();
+        Case { file, n, choice, rows: of_rows.counts, cuts: of_cuts.counts }
     }
 }
 
@@ -29,24 +31,33 @@ impl Case {
 pub struct Call {
     pub name: &'static str,
     pub what: &'static str,
-    /// Flips and raises stand beside the times.
-    pub counted: bool,
+    /// The flips and raises, which stand beside the times.
+    pub counts: Option<fn(&Case) -> Counts>,
     run: fn(&Planner, &Case, &mut Lists),
 }
 
-const PLAN: Call = Call {
-    name: "Plan",
-    what: "The first joining choice with its cuts and levels.",
-    counted: true,
+const ROWS: Call = Call {
+    name: "Rows",
+    what: "The first joining choice and its total.",
+    counts: Some(|case| case.rows),
     run: |planner, case, lent| {
-        black_box((planner.plan)(black_box(&case.file), lent));
+        black_box((planner.rows)(black_box(&case.file), lent));
+    },
+};
+
+const CUTS: Call = Call {
+    name: "Cuts",
+    what: "The cuts beside the first joining choice, and the levels.",
+    counts: Some(|case| case.cuts),
+    run: |planner, case, lent| {
+        black_box((planner.cuts)(black_box(&case.file), lent));
     },
 };
 
 pub const CHECK: Call = Call {
     name: "Check",
     what: "The plan's own choice, which joins: every junction is searched from.",
-    counted: false,
+    counts: None,
     run: |planner, case, _| {
         black_box((planner.check)(black_box(&case.file), &case.choice));
     },
@@ -55,7 +66,7 @@ pub const CHECK: Call = Call {
 const TIGHT: Call = Call {
     name: "Tight neighbourhoods",
     what: "One call for each junction, for the plan's choice; each reads the file and checks the choice anew.",
-    counted: false,
+    counts: None,
     run: |planner, case, _| {
         for junction in 1..=case.n as u32 {
             black_box((planner.tight)(black_box(&case.file), &case.choice, junction));
@@ -66,7 +77,7 @@ const TIGHT: Call = Call {
 pub const ROUTES: Call = Call {
     name: "Routes",
     what: "One call for each junction j, from j to n + 1 - j, for the plan's choice; each reads the file and checks the choice anew.",
-    counted: false,
+    counts: None,
     run: |planner, case, lent| {
         let n = case.n as u32;
         for from in 1..=n {
@@ -75,7 +86,7 @@ pub const ROUTES: Call = Call {
     },
 };
 
-pub const CALLS: [Call; 4] = [PLAN, CHECK, TIGHT, ROUTES];
+pub const CALLS: [Call; 5] = [ROWS, CUTS, CHECK, TIGHT, ROUTES];
 
 impl Call {
     /// Nanoseconds of each planner.

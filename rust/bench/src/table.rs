@@ -43,7 +43,7 @@ impl<'a> Table<'a> {
         for planner in &planners[1..] {
             head += &format!(" {} / {}, mean | worst |", planner.name, planners[0].name);
         }
-        if call.counted {
+        if call.counts.is_some() {
             head += " flips, median | worst | raises, median | worst |";
         }
         println!("{head}\n|---|{}", "---:|".repeat(head.matches('|').count() - 2));
@@ -61,8 +61,9 @@ impl<'a> Table<'a> {
             let ratios: Vec<f64> = times.iter().map(|of_case| of_case[k] / of_case[0]).collect();
             line += &format!(" {:.2} | {:.2} |", mean(&ratios), median_and_worst(ratios.clone()).1);
         }
-        if self.call.counted {
-            let (flips, raises) = cases.iter().map(|case| (case.flips, case.raises)).unzip();
+        if let Some(counts) = self.call.counts {
+            let flips = cases.iter().map(|case| counts(case).flips.into()).collect();
+            let raises = cases.iter().map(|case| counts(case).raises.into()).collect();
             for (median, worst) in [median_and_worst(flips), median_and_worst(raises)] {
                 line += &format!(" {median} | {worst} |");
             }

@@ -4,7 +4,7 @@ use halls::Random;
 use oracle::{Claim, Hall};
 
 use crate::routes::some_routes;
-use crate::{Lists, Planned, Planner};
+use crate::{Lists, Plan, Planner};
 
 pub type Outcome = Result<(), String>;
 
@@ -82,68 +82,84 @@ pub fn plan(planner: &Planner, file: &[u8]) -> Outcome {
 
 /// The same, and the choice is the first of all.
 pub fn small_plan(planner: &Planner, file: &[u8]) -> Outcome {
-    let (reply, lent) = planned(planner, file)?;
-    match oracle::hall_in(file) {
-        Ok(hall) => {
-            let (first, total) = oracle::first_choice(&hall);
-            same("choice", &lent.rows[..reply[2] as usize], &first)?;
-            same("total", reply[5], total)
-        }
-        Err(_) => Ok(()),
+    match planned(planner, file)? {
+        Some((hall, choice, total)) => same("choice and total", (choice, total), oracle::first_choice(&hall)),
+        None => Ok(()),
     }
 }
 
 /// The plan's certificate, and that the choice is the first of all, by cuts of the plain Rust at other costs.
 pub fn first_plan(planner: &Planner, file: &[u8]) -> Outcome {
-    let (reply, lent) = planned(planner, file)?;
-    match oracle::hall_in(file) {
-        Ok(hall) => {
+    match planned(planner, file)? {
+        Some((hall, choice, _)) => {
             let cuts_at = |costs: &[u64]| reference::cuts_at(file, costs).expect("the hall is accepted");
-            same("unshown", oracle::unshown(&hall, &lent.rows[..reply[2] as usize], cuts_at), vec![])
+            same("unshown", oracle::unshown(&hall, &choice, cuts_at), vec![])
         }
-        Err(_) => Ok(()),
+        None => Ok(()),
     }
 }
 
-fn planned(planner: &Planner, file: &[u8]) -> Result<(Planned, Lists), String> {
+/// Both calls for one file. Together their replies claim a plan; gives the hall, the choice and its total, or nothing where
+/// both calls have to refuse the file.
+fn planned(planner: &Planner, file: &[u8]) -> Result<Option<(Hall, Vec<u32>, u64)>, String> {
     let mut lent = Lists::marked(257, 125, 126, 64);
     let untouched = lent.clone();
-    let reply = (planner.plan)(file, &mut lent);
-    match oracle::hall_in(file) {
+    let of_rows = (planner.rows)(file, &mut lent);
+    let of_cuts = (planner.cuts)(file, &mut lent);
+    let hall = match oracle::hall_in(file) {
+        Ok(hall) => hall,
         Err(refusal) => {
-            same("plan", reply, [refusal.number.into(), refusal.row.into(), 0, 0, 0, 0])?;
+            let refused = [refusal.number.into(), refusal.row.into(), 0, 0];
+            same("rows' and cuts' call", [of_rows, of_cuts], [refused; 2])?;
             same("lists of a refused plan", &lent, &untouched)?;
+            return Ok(None);
         }
-        Ok(hall) => {
-            let [chosen, cuts, levels] = [reply[2], reply[3], reply[4]].map(|length| length as usize);
-            same("plan's number and row", &reply[..2], &[0, 0])?;
-            same("lengths that fit", chosen <= 256 && cuts <= 125 && levels <= 64, true)?;
-            let claim = Claim {
-                rows: &lent.rows[..chosen],
-                shores: &lent.shores[..cuts],
-                weights: &lent.weights[..cuts],
-                levels: &lent.levels[..levels],
-                total: reply[5],
-            };
-            same("faults", oracle::faults(&hall, &claim), vec![])?;
-            same("rows after", &lent.rows[chosen..], &untouched.rows[chosen..])?;
-            same("shores after", &lent.shores[cuts..], &untouched.shores[cuts..])?;
-            same("weights after", &lent.weights[cuts..], &untouched.weights[cuts..])?;
-            same("levels after", &lent.levels[levels..], &untouched.levels[levels..])?;
-        }
-    }
-    Ok((reply, lent))
+    };
+    same("numbers and rows", [of_rows[0], of_rows[1], of_cuts[0], of_cuts[1]], [0; 4])?;
+    let [chosen, cuts, levels] = [of_rows[2], of_cuts[2], of_cuts[3]].map(|length| length as usize);
+    same("lengths that fit", chosen <= 256 && cuts <= 125 && levels <= 64, true)?;
+    let claim = Claim {
+        rows: &lent.rows[..chosen],
+        shores: &lent.shores[..cuts],
+        weights: &lent.weights[..cuts],
+        levels: &lent.levels[..levels],
+        total: of_rows[3],
+    };
+    same("faults", oracle::faults(&hall, &claim), vec![])?;
+    same("rows after", &lent.rows[chosen..], &untouched.rows[chosen..])?;
+    same("shores after", &lent.shores[cuts..], &untouched.shores[cuts..])?;
+    same("weights after", &lent.weights[cuts..], &untouched.weights[cuts..])?;
+    same("levels after", &lent.levels[levels..], &untouched.levels[levels..])?;
+    Ok(Some((hall, lent.rows[..chosen].to_vec(), of_rows[3])))
 }
 
-/// Refusal 1 comes before all others and writes nothing.
+/// Lists of which none, one or all are too short, for the rows' call, for the cuts' call or for both.
 pub fn short_lists(planner: &Planner, file: &[u8]) -> Outcome {
-    for (rows, shores, weights, levels) in
-        [(255, 125, 125, 64), (256, 124, 125, 64), (256, 125, 124, 64), (256, 125, 125, 63), (0, 0, 0, 0)]
-    {
-        let mut lent = Lists::marked(rows, shores, weights, levels);
-        let untouched = lent.clone();
-        same("plan with a short list", (planner.plan)(file, &mut lent), [1, 0, 0, 0, 0, 0])?;
-        same("short lists", &lent, &untouched)?;
+    for (rows, shores, weights, levels) in [
+        (256, 125, 125, 64),
+        (255, 125, 125, 64),
+        (256, 124, 125, 64),
+        (256, 125, 124, 64),
+        (256, 125, 125, 63),
+        (256, 0, 0, 0),
+        (0, 125, 125, 64),
+        (0, 0, 0, 0),
+    ] {
+        let lists = Lists::marked(rows, shores, weights, levels);
+        refused_if_short(planner.rows, file, &lists, rows < 256)?;
+        refused_if_short(planner.cuts, file, &lists, shores < 125 || weights < 125 || levels < 64)?;
     }
     Ok(())
+}
+
+/// Refusal 1 comes before all others and writes nothing. Where it does not come, the file's own number does.
+fn refused_if_short(call: Plan, file: &[u8], lists: &Lists, short: bool) -> Outcome {
+    let mut lent = lists.clone();
+    let reply = call(file, &mut lent);
+    if short {
+        same("short lists", (reply, &lent), ([1, 0, 0, 0], lists))
+    } else {
+        let number = oracle::hall_in(file).map_or_else(|refusal| refusal.number.into(), |_| 0);
+        same("number with lists that suffice", reply[0], number)
+    }
 }

@@ -1,4 +1,4 @@
-//! The planners that there are, behind the same four calls, and what each call must answer.
+//! The planners that there are, behind the same five calls, and what each call must answer.
 
 mod expect;
 mod routes;
@@ -12,10 +12,10 @@ pub type Told = [u64; 4];
 /// Number, row, outcome, set, filled.
 pub type Routed = [u64; 5];
 
-/// Number, row, chosen, cuts, levels, total.
-pub type Planned = [u64; 6];
+/// Number, row; then chosen, total for the rows' call, and cuts, levels for the cuts' call.
+pub type Planned = [u64; 4];
 
-/// What is lent to a plan.
+/// What is lent to a plan: the rows to the rows' call, the others to the cuts' call.
 #[derive(Clone, Debug, PartialEq, Eq)]
 pub struct Lists {
     pub rows: Vec<u32>,
@@ -44,23 +44,30 @@ impl Lists {
 /// From one junction to another, into a lent list.
 pub type Route = fn(&[u8], &[u32], u32, u32, &mut [i32]) -> Routed;
 
+/// Each of the two calls looks only at its own of these lists.
+pub type Plan = fn(&[u8], &mut Lists) -> Planned;
+
 pub struct Planner {
     pub name: &'static str,
     pub check: fn(&[u8], &[u32]) -> Told,
     pub tight: fn(&[u8], &[u32], u32) -> Told,
     pub route: Route,
-    pub plan: fn(&[u8], &mut Lists) -> Planned,
+    pub rows: Plan,
+    pub cuts: Plan,
 }
 
 /// A planner by its name and its crate; the crates have the same calls over types of their own.
 macro_rules! planner {
     ($name:literal, $of:ident) => {{
+        fn refused(refusal: $of::Refusal) -> [u64; 4] {
+            [refusal.number.into(), refusal.row.into(), 0, 0]
+        }
         fn told(reply: Result<$of::Finding, $of::Refusal>) -> Told {
             match reply {
                 Ok($of::Finding::Joins) => [0, 0, 1, 0],
                 Ok($of::Finding::Misses(shore)) => [0, 0, 2, shore],
                 Ok($of::Finding::Around(set)) => [0, 0, 3, set],
-                Err(refusal) => [refusal.number.into(), refusal.row.into(), 0, 0],
+                Err(refusal) => refused(refusal),
             }
         }
         Planner {
@@ -72,11 +79,15 @@ macro_rules! planner {
                 Ok($of::Way::Route(filled)) => [0, 0, 4, 0, filled as u64],
                 Err(refusal) => [refusal.number.into(), refusal.row.into(), 0, 0, 0],
             },
-            plan: |file, lent| {
-                let Lists { rows, shores, weights, levels } = lent;
-                match $of::plan_into(file, rows, shores, weights, levels) {
-                    Ok(p) => [0, 0, p.chosen as u64, p.cuts as u64, p.levels as u64, p.total.into()],
-                    Err(refusal) => [refusal.number.into(), refusal.row.into(), 0, 0, 0, 0],
+            rows: |file, lent| match $of::plan_rows_into(file, &mut lent.rows) {
+                Ok(p) => [0, 0, p.chosen as u64, p.total.into()],
+                Err(refusal) => refused(refusal),
+            },
+            cuts: |file, lent| {
+                let Lists { shores, weights, levels, .. } = lent;
+                match $of::plan_cuts_into(file, shores, weights, levels) {
+                    Ok(p) => [0, 0, p.cuts as u64, p.levels as u64],
+                    Err(refusal) => refused(refusal),
                 }
             },
         }

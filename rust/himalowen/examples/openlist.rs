@@ -1,6 +1,8 @@
-//! Plans a hall file and prints the list: `openlist HALL`.
+//! Plans a hall file, its rows in one call and its cuts in another, and prints the list: `openlist HALL`.
 
 use std::io::Write;
+
+use himalowen::{plan_cuts, plan_rows, Cuts, FirstChoice};
 
 /// Little-endian.
 fn number(bytes: &[u8]) -> usize {
@@ -14,17 +16,20 @@ fn rows(file: &[u8]) -> Vec<&[u8]> {
     blocks.flat_map(|block| block.chunks_exact(8)).collect()
 }
 
-fn print_plan(file: &[u8], plan: &himalowen::Plan, out: &mut impl Write) -> std::io::Result<()> {
+fn print_rows(file: &[u8], junctions: usize, choice: &FirstChoice, out: &mut impl Write) -> std::io::Result<()> {
     let rows = rows(file);
-    writeln!(out, "HALL {} {}", plan.levels.len(), rows.len())?;
-    writeln!(out, "OPEN {}", plan.rows.len())?;
-    for &i in &plan.rows {
+    writeln!(out, "HALL {junctions} {}", rows.len())?;
+    writeln!(out, "OPEN {}", choice.rows.len())?;
+    for &i in &choice.rows {
         let row = rows[i as usize - 1];
         writeln!(out, "{i} {} {} {}", number(&row[..2]), number(&row[2..4]), number(&row[4..]))?;
     }
-    writeln!(out, "TOTAL {}", plan.total)?;
-    writeln!(out, "CUTS {}", plan.cuts.len())?;
-    for cut in &plan.cuts {
+    writeln!(out, "TOTAL {}", choice.total)
+}
+
+fn print_cuts(cuts: &Cuts, out: &mut impl Write) -> std::io::Result<()> {
+    writeln!(out, "CUTS {}", cuts.cuts.len())?;
+    for cut in &cuts.cuts {
         write!(out, "{}", cut.weight)?;
         for j in (1..=64).filter(|j| cut.shore >> (j - 1) & 1 == 1) {
             write!(out, " {j}")?;
@@ -32,7 +37,7 @@ fn print_plan(file: &[u8], plan: &himalowen::Plan, out: &mut impl Write) -> std:
         writeln!(out)?;
     }
     write!(out, "LEVELS")?;
-    for level in &plan.levels {
+    for level in &cuts.levels {
         write!(out, " {level}")?;
     }
     writeln!(out)
@@ -42,8 +47,11 @@ fn main() -> std::io::Result<()> {
     let name = std::env::args_os().nth(1).expect("usage: openlist HALL");
     let file = std::fs::read(name)?;
     let mut out = std::io::stdout().lock();
-    match himalowen::plan(&file) {
-        Ok(plan) => print_plan(&file, &plan, &mut out),
+    match plan_rows(&file).and_then(|choice| Ok((choice, plan_cuts(&file)?))) {
+        Ok((choice, cuts)) => {
+            print_rows(&file, cuts.levels.len(), &choice, &mut out)?;
+            print_cuts(&cuts, &mut out)
+        }
         Err(refusal) => writeln!(out, "{refusal}"),
     }
 }

@@ -32,18 +32,24 @@ mod exported {
             reply: &mut [u64; 5],
         ) -> u32;
 
-        pub fn himalowen_plan(
+        pub fn himalowen_plan_rows(
             file: *const u8,
             file_length: usize,
             rows: *mut u32,
             rows_length: usize,
+            reply: &mut [u64; 4],
+        ) -> u32;
+
+        pub fn himalowen_plan_cuts(
+            file: *const u8,
+            file_length: usize,
             shores: *mut u64,
             shores_length: usize,
             weights: *mut u32,
             weights_length: usize,
             levels: *mut i32,
             levels_length: usize,
-            reply: &mut [u64; 6],
+            reply: &mut [u64; 4],
         ) -> u32;
     }
 }
@@ -82,14 +88,20 @@ pub fn route(file: &[u8], choice: &[u32], from: u32, to: u32, rows: &mut [i32]) 
     reply
 }
 
-pub fn plan(file: &[u8], rows: &mut [u32], shores: &mut [u64], weights: &mut [u32], levels: &mut [i32]) -> [u64; 6] {
-    let mut reply = [0; 6];
+pub fn plan_rows(file: &[u8], rows: &mut [u32]) -> [u64; 4] {
+    let mut reply = [0; 4];
     unsafe {
-        exported::himalowen_plan(
+        exported::himalowen_plan_rows(file.as_ptr(), file.len(), rows.as_mut_ptr(), rows.len(), &mut reply);
+    }
+    reply
+}
+
+pub fn plan_cuts(file: &[u8], shores: &mut [u64], weights: &mut [u32], levels: &mut [i32]) -> [u64; 4] {
+    let mut reply = [0; 4];
+    unsafe {
+        exported::himalowen_plan_cuts(
             file.as_ptr(),
             file.len(),
-            rows.as_mut_ptr(),
-            rows.len(),
             shores.as_mut_ptr(),
             shores.len(),
             weights.as_mut_ptr(),

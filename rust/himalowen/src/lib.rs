@@ -44,12 +44,24 @@ pub enum Way<T> {
     Route(T),
 }
 
-/// How many places of each lent list are filled, and the plan's total.
+/// How many places of the lent list are filled, and the total of these rows.
 #[derive(Clone, Copy, Debug, PartialEq, Eq)]
-pub struct Planned {
+pub struct PlannedRows {
     pub chosen: usize,
+    pub total: u32,
+}
+
+/// How many places of the lent lists are filled: the cuts stand in two.
+#[derive(Clone, Copy, Debug, PartialEq, Eq)]
+pub struct PlannedCuts {
     pub cuts: usize,
     pub levels: usize,
+}
+
+/// The rows that a plan opens, and their total.
+#[derive(Clone, Debug, PartialEq, Eq)]
+pub struct FirstChoice {
+    pub rows: Vec<u32>,
     pub total: u32,
 }
 
@@ -59,13 +71,11 @@ pub struct Cut {
     pub weight: u32,
 }
 
-/// A plan with lists of its own.
+/// The cuts beside the first choice, and the level of each junction.
 #[derive(Clone, Debug, PartialEq, Eq)]
-pub struct Plan {
-    pub rows: Vec<u32>,
+pub struct Cuts {
     pub cuts: Vec<Cut>,
     pub levels: Vec<i32>,
-    pub total: u32,
 }
 
 /// Whether the chosen rows, ascending and none of them fixed, join the hall.
@@ -100,33 +110,41 @@ pub fn route(file: &[u8], choice: &[u32], from: u32, to: u32) -> Result<Way<Vec<
     })
 }
 
-/// The first joining choice, its cuts and levels, in the front of the lent lists.
-pub fn plan_into(
+/// The first joining choice in the front of the lent list, and its total. Refusal 1 looks at that list alone.
+pub fn plan_rows_into(file: &[u8], rows: &mut [u32]) -> Result<PlannedRows, Refusal> {
+    let [number, row, chosen, total] = boundary::plan_rows(file, rows);
+    accepted(number, row)?;
+    Ok(PlannedRows { chosen: chosen as usize, total: total as u32 })
+}
+
+/// The first joining choice and its total.
+pub fn plan_rows(file: &[u8]) -> Result<FirstChoice, Refusal> {
+    let mut rows = [0; ROW_PLACES];
+    let PlannedRows { chosen, total } = plan_rows_into(file, &mut rows)?;
+    Ok(FirstChoice { rows: rows[..chosen].to_vec(), total })
+}
+
+/// The cuts beside the first joining choice, and the levels, in the front of the lent lists. The weights add up to the
+/// total that `plan_rows` gives for the same file. Refusal 1 looks at these lists alone.
+pub fn plan_cuts_into(
     file: &[u8],
-    rows: &mut [u32],
     shores: &mut [u64],
     weights: &mut [u32],
     levels: &mut [i32],
-) -> Result<Planned, Refusal> {
-    let [number, row, chosen, cuts, levels, total] = boundary::plan(file, rows, shores, weights, levels);
+) -> Result<PlannedCuts, Refusal> {
+    let [number, row, cuts, levels] = boundary::plan_cuts(file, shores, weights, levels);
     accepted(number, row)?;
-    Ok(Planned { chosen: chosen as usize, cuts: cuts as usize, levels: levels as usize, total: total as u32 })
+    Ok(PlannedCuts { cuts: cuts as usize, levels: levels as usize })
 }
 
-/// The first joining choice, its cuts and levels.
-pub fn plan(file: &[u8]) -> Result<Plan, Refusal> {
-    let mut rows = [0; ROW_PLACES];
+/// The same cuts and levels in lists of their own.
+pub fn plan_cuts(file: &[u8]) -> Result<Cuts, Refusal> {
     let mut shores = [0; CUT_PLACES];
     let mut weights = [0; CUT_PLACES];
     let mut levels = [0; LEVEL_PLACES];
-    let planned = plan_into(file, &mut rows, &mut shores, &mut weights, &mut levels)?;
+    let planned = plan_cuts_into(file, &mut shores, &mut weights, &mut levels)?;
     let cuts = shores.iter().zip(&weights).map(|(&shore, &weight)| Cut { shore, weight });
-    Ok(Plan {
-        rows: rows[..planned.chosen].to_vec(),
-        cuts: cuts.take(planned.cuts).collect(),
-        levels: levels[..planned.levels].to_vec(),
-        total: planned.total,
-    })
+    Ok(Cuts { cuts: cuts.take(planned.cuts).collect(), levels: levels[..planned.levels].to_vec() })
 }
 
 fn accepted(number: u64, row: u64) -> Result<(), Refusal> {

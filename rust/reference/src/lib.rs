@@ -1,5 +1,5 @@
 //! Opening lanes at least cost: the method of the proved library in plain Rust, unproved.
-//! It is the baseline for benchmarks and answers the same four calls. Inside, junctions and rows count from 0.
+//! It is the baseline for benchmarks and answers the same five calls. Inside, junctions and rows count from 0.
 
 mod choice;
 mod cuts;
@@ -33,13 +33,19 @@ pub enum Way {
     Route(usize),
 }
 
-/// How much of each lent list is filled, the total, and the work it took.
+/// How much of the lent list is filled, the total, and the work it took.
 #[derive(Clone, Copy, Debug, PartialEq, Eq)]
-pub struct Planned {
+pub struct PlannedRows {
     pub chosen: usize,
+    pub total: u32,
+    pub counts: Counts,
+}
+
+/// How much of the lent lists is filled, and the work it took.
+#[derive(Clone, Copy, Debug, PartialEq, Eq)]
+pub struct PlannedCuts {
     pub cuts: usize,
     pub levels: usize,
-    pub total: u32,
     pub counts: Counts,
 }
 
@@ -83,38 +89,37 @@ pub fn route_into(file: &[u8], choice: &[u32], from: u32, to: u32, rows: &mut [i
     })
 }
 
-/// Fills the front of the lent lists with the first joining choice, the cuts beside it and their levels.
-pub fn plan_into(
-    file: &[u8],
-    rows: &mut [u32],
-    shores: &mut [u64],
-    weights: &mut [u32],
-    levels: &mut [i32],
-) -> Result<Planned, Refusal> {
-    let too_short = rows.len() < ROW_PLACES
-        || shores.len() < CUT_PLACES
-        || weights.len() < CUT_PLACES
-        || levels.len() < LEVEL_PLACES;
-    if too_short {
+/// Fills the front of the lent list with the first joining choice.
+pub fn plan_rows_into(file: &[u8], rows: &mut [u32]) -> Result<PlannedRows, Refusal> {
+    if rows.len() < ROW_PLACES {
         return Err(Refusal::new(1));
     }
     let hall = hall::read(file)?;
-    let plan = planner::plan(&hall);
-    for (place, &row) in rows.iter_mut().zip(&plan.rows) {
+    let (chosen, counts) = planner::rows(&hall);
+    for (place, &row) in rows.iter_mut().zip(&chosen) {
         *place = row as u32 + 1;
     }
-    for (k, &(shore, weight)) in plan.cuts.iter().enumerate() {
+    Ok(PlannedRows { chosen: chosen.len(), total: chosen.iter().map(|&i| hall.rows[i].price).sum(), counts })
+}
+
+/// Fills the front of the lent lists with the cuts beside the first joining choice and their levels.
+pub fn plan_cuts_into(
+    file: &[u8],
+    shores: &mut [u64],
+    weights: &mut [u32],
+    levels: &mut [i32],
+) -> Result<PlannedCuts, Refusal> {
+    if shores.len() < CUT_PLACES || weights.len() < CUT_PLACES || levels.len() < LEVEL_PLACES {
+        return Err(Refusal::new(1));
+    }
+    let hall = hall::read(file)?;
+    let (cuts, found, counts) = planner::cuts(&hall);
+    for (k, &(shore, weight)) in cuts.iter().enumerate() {
         shores[k] = shore;
         weights[k] = weight as u32;
     }
-    levels[..hall.n].copy_from_slice(&plan.levels);
-    Ok(Planned {
-        chosen: plan.rows.len(),
-        cuts: plan.cuts.len(),
-        levels: hall.n,
-        total: plan.rows.iter().map(|&i| hall.rows[i].price).sum(),
-        counts: plan.counts,
-    })
+    levels[..hall.n].copy_from_slice(&found);
+    Ok(PlannedCuts { cuts: cuts.len(), levels: hall.n, counts })
 }
 
 /// Shores and weights of the cuts beside a choice of least cost, where each row has another cost than its price.

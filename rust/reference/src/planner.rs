@@ -1,5 +1,5 @@
-//! The plan: a joining choice is repaired against a potential until its cost is least, first for the price, then for
-//! price and count, and then its rows are decided one by one in order.
+//! The plan: a joining choice is repaired against a potential until its cost is least. For the rows it is repaired at price
+//! and count, and its rows are then decided one by one in order; for the cuts it is repaired at the price alone.
 //!
 //! Kept throughout, for a row from u to v with cost c: p(v) - p(u) <= c, with equality on chosen rows once repaired; and
 //! where p(u) < p(v), some tight shore holds v and not u.
@@ -14,13 +14,6 @@ use crate::tight::Neighbourhoods;
 pub struct Counts {
     pub flips: u32,
     pub raises: u32,
-}
-
-pub struct Plan {
-    pub rows: Vec<usize>,
-    pub cuts: Vec<(u64, u64)>,
-    pub levels: Vec<i32>,
-    pub counts: Counts,
 }
 
 pub struct Planner<'h> {
@@ -43,35 +36,52 @@ enum Search {
 /// What a fixed row costs: more than any choice of the others.
 const FIXED_COST: i64 = 256_000_001;
 
-pub fn plan(hall: &Hall) -> Plan {
-    let cost = |row: &Row| if row.fixed { FIXED_COST } else { row.price.into() };
-    let mut planner = Planner::new(hall, hall.rows.iter().map(cost).collect());
-    planner.repair();
-    let cuts = cuts::cuts(&mut planner);
-    let levels = (0..hall.n).map(|j| (planner.potential[j] - planner.potential[0]) as i32).collect();
-    planner.count_rows_too();
-    planner.repair();
+/// What a row costs where the total is to be least.
+fn charge(row: &Row) -> i64 {
+    if row.fixed {
+        FIXED_COST
+    } else {
+        row.price.into()
+    }
+}
+
+/// What a row costs where the total, then the number of rows, is to be least: there are at most 256 rows.
+fn rank(row: &Row) -> i64 {
+    257 * charge(row) + 1
+}
+
+/// The first choice.
+pub fn rows(hall: &Hall) -> (Vec<usize>, Counts) {
+    let mut planner = Planner::repaired(hall, hall.rows.iter().map(rank).collect());
     planner.decide_rows();
-    Plan { rows: planner.choice.rows().collect(), cuts, levels, counts: planner.counts }
+    (planner.choice.rows().collect(), planner.counts)
+}
+
+/// The cuts beside a choice of least total, and the levels.
+pub fn cuts(hall: &Hall) -> (Vec<(u64, u64)>, Vec<i32>, Counts) {
+    let mut planner = Planner::repaired(hall, hall.rows.iter().map(charge).collect());
+    let levels = (0..hall.n).map(|j| (planner.potential[j] - planner.potential[0]) as i32).collect();
+    (cuts::cuts(&mut planner), levels, planner.counts)
 }
 
 /// The cuts beside a choice of least cost, for other costs than the prices.
 pub fn cuts_at(hall: &Hall, cost: Vec<i64>) -> Vec<(u64, u64)> {
-    let mut planner = Planner::new(hall, cost);
-    planner.repair();
-    cuts::cuts(&mut planner)
+    cuts::cuts(&mut Planner::repaired(hall, cost))
 }
 
 impl<'h> Planner<'h> {
-    fn new(hall: &'h Hall, cost: Vec<i64>) -> Planner<'h> {
-        Planner {
+    /// A choice of least cost with its potential.
+    fn repaired(hall: &'h Hall, cost: Vec<i64>) -> Planner<'h> {
+        let mut planner = Planner {
             choice: Choice::thinned(hall, &cost),
             potential: [0; 64],
             cost,
             decided: 0,
             neighbourhoods: Neighbourhoods::unknown(),
             counts: Counts::default(),
-        }
+        };
+        planner.repair();
+        planner
     }
 
     pub fn hall(&self) -> &'h Hall {
@@ -111,12 +121,6 @@ impl<'h> Planner<'h> {
                 }
             }
         }
-    }
-
-    /// Least total, then fewest rows: there are at most 256.
-    fn count_rows_too(&mut self) {
-        self.cost.iter_mut().for_each(|cost| *cost = 257 * *cost + 1);
-        self.potential.iter_mut().for_each(|p| *p *= 257);
     }
 
     /// Each row in turn goes in if the cost allows it.

@@ -20,9 +20,9 @@ type Sets = [u64; JUNCTIONS];
 
 /// The first choice, and the lowest other rows until there are `least`.
 fn chosen_rows(file: &[u8], least: usize) -> Vec<u32> {
-    let (mut rows, mut shores, mut weights, mut levels) = ([0; 256], [0; 125], [0; 125], [0; 64]);
-    let planned = reference::plan_into(file, &mut rows, &mut shores, &mut weights, &mut levels);
-    let mut choice = rows[..planned.expect("full halls are accepted").chosen].to_vec();
+    let mut rows = [0; 256];
+    let planned = reference::plan_rows_into(file, &mut rows).expect("full halls are accepted");
+    let mut choice = rows[..planned.chosen].to_vec();
     let others: Vec<u32> = (1..=256).filter(|row| !choice.contains(row)).collect();
     choice.extend(&others[..least.saturating_sub(choice.len())]);
     choice.sort();

@@ -10,13 +10,14 @@ pub fn judge(file: &[u8], text: &str) -> Vec<String> {
 fn plan(file: &[u8]) -> Result<(Hall, Listed), Refusal> {
     let hall = hall_in(file)?;
     let (mut rows, mut shores, mut weights, mut levels) = ([0; 256], [0; 125], [0; 125], [0; 64]);
-    let planned = reference::plan_into(file, &mut rows, &mut shores, &mut weights, &mut levels)?;
+    let of_rows = reference::plan_rows_into(file, &mut rows)?;
+    let of_cuts = reference::plan_cuts_into(file, &mut shores, &mut weights, &mut levels)?;
     let listed = Listed {
-        rows: rows[..planned.chosen].to_vec(),
-        shores: shores[..planned.cuts].to_vec(),
-        weights: weights[..planned.cuts].to_vec(),
-        levels: levels[..planned.levels].to_vec(),
-        total: planned.total.into(),
+        rows: rows[..of_rows.chosen].to_vec(),
+        shores: shores[..of_cuts.cuts].to_vec(),
+        weights: weights[..of_cuts.cuts].to_vec(),
+        levels: levels[..of_cuts.levels].to_vec(),
+        total: of_rows.total.into(),
     };
     assert_eq!(judge(file, &printed(&hall, &listed.claim())), [""; 0], "the plain Rust's plan");
     if hall.n <= SMALL && hall.rows.len() <= 16 {
