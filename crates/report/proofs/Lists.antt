@@ -1,6 +1,6 @@
 -- What the two calls leave in lists of full length is what the report prints. Assumes nothing.
 use mathlib.Core.Path.{◌≡◌, refl, sym, ap, ◌∙◌}
-use mathlib.Core.Bool.{true, false}
+use mathlib.Core.Bool.{false}
 use mathlib.Core.List.{List}
 use Prim.Native.Nat.{ℕ, zero, suc, ◌≤◌}
 use native.Mathlib.Omega.{arith}
@@ -59,12 +59,8 @@ module _ (bs : List ℕ) where
     unfolding CutsSays answered figure refusal
     cuts_fine c {p} first says = cuts_listed (hall_in bs) c p.cuts p.levels first d w lent b y says.1
 
--- the two replies for one file can be printed, and what is printed is the plan
-module _ {h : Hall} {k t q l : ℕ} {x : List ℕ} {y : List Cut} {d w : List ℤ} {hall : HallRecord}
-    (r : ChoiceListed h k t x) (s : CutsListed lent h (take k x) q l y d w) (is : RecordOf h hall) where
-  same_hall : hall_of hall ≡ h
-  same_hall = hall_of_record h hall is
-
+-- cuts and levels as they stand in the lists
+module _ {h : Hall} {c : List ℕ} {q l : ℕ} {y : List Cut} {d w : List ℤ} (s : CutsListed lent h c q l y d w) where
   cuts_are : cuts_of (take q y) ≡ s.cuts
   cuts_are = ap cuts_of s.listed ∙ cuts-lent s.cuts
 
@@ -78,17 +74,23 @@ module _ {h : Hall} {k t q l : ℕ} {x : List ℕ} {y : List Cut} {d w : List �
   levels_are : take l w ≡ levels h s.cuts
   levels_are = front_are (levels h s.cuts) d w l (s.leveled ∙ sym levels-length) s.levels_are
 
+-- what the two replies for one file leave can be printed, and what is printed is the plan
+module _ {h : Hall} {k t q l : ℕ} {x : List ℕ} {y : List Cut} {d w : List ℤ} {hall : HallRecord}
+    (r : ChoiceListed h k t x) (s : CutsListed lent h (take k x) q l y d w) (is : RecordOf h hall) where
+  same_hall : hall_of hall ≡ h
+  same_hall = hall_of_record h hall is
+
   pub printable : Printable hall (take k x) (take q y) (take l w)
   unfolding most_cuts
   printable = record {
     choice = rw same_hall r.first.choice;
     cuts = omega (arith, ap length s.listed, length-map s.cuts lent, s.beside.few, is.junctions, hall.lanes.ends.size);
-    leveled = omega (arith, ap length levels_are, levels-length, is.junctions, hall.lanes.ends.size);
+    leveled = omega (arith, ap length (levels_are s), levels-length s, is.junctions, hall.lanes.ends.size);
   }
 
   pub printed : {text : List ℕ} → text ≡ printed_plan (hall_of hall) (take k x) t (cuts_of (take q y)) (take l w) → PlanPrinted h text
   unfolding PlanPrinted
-  printed is_text = (take k x, s.cuts, r.first, s.beside, rw (same_hall, r.sum, cuts_are, levels_are) at is_text)
+  printed is_text = (take k x, s.cuts, r.first, s.beside, rw (same_hall, r.sum, cuts_are s, levels_are s) at is_text)
 
 -- the list is the report where there is one, and the line of the refusal where there is none
 module _ (bs : List ℕ) where
