@@ -32,7 +32,7 @@ pub list_cuts-cuts-requires : goal.list_cuts-cuts-requires
 list_cuts-cuts-requires c =
     let a = c.args in let rd = accepted (goal.at.list_cuts-cuts-requires c).In_ok-hall in
     let enough = room a.file.now a.shores.now a.weights.now a.levels.now c.if-short.false in
-    (enough.0, enough.1, enough.2, (hall_in a.file.now, rd, c.least-least.ensures (hall_in a.file.now) rd))
+    (omega (arith, enough.0), enough.1, enough.2, (hall_in a.file.now, rd, c.least-least.ensures (hall_in a.file.now) rd))
 
 pub overflow_cast-result : goal.overflow_cast-result
 overflow_cast-result c = omega (arith, c.list_cuts-cuts.ensures.0)

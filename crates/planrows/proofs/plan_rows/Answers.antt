@@ -1,5 +1,6 @@
 -- `planrows::plan_rows` meets its contract: the first refusal, with the list as it was, or the first choice of the hall that was read. Assumes nothing.
 use mathlib.Core.Path.{◌≡◌}
+use native.Mathlib.Omega.{arith}
 use Rattle.std.proofs.Common.{rules, Err}
 use Rattle.hall.specs.Hall.{Hall}
 use Rattle.hall.specs.File.{hall_in}
@@ -46,7 +47,7 @@ first_choice-first-requires c =
     }
 
 pub list_first-requires : goal.list_first-requires
-list_first-requires c = c.if-short.false
+list_first-requires c = omega (arith, c.if-short.false)
 
 pub returns : goal.returns
 unfolding answered
