@@ -1,34 +1,30 @@
-// A plan with its cuts lent as structs, into lists that have a mark in every place.
+// The cuts' call of planning with cuts as structs, over lists whose shores and weights stand apart.
 #![tactic(auto)]
 
 ghost use Rattle.std.specs.Prelude.{◌≤◌};
 
 use cutlist::Cut;
 use junctions::Junctions;
-use tries::{Lists, Tried};
+use planpairs::PlannedCuts;
+use refusals::Kind;
+use std::array;
+use tries::Lists;
 
-// The plan with so many places for cuts; its cuts in two number lists.
-pub fn plan(file: &[u8], room: usize) -> Tried
-    requires { room ≤ 126 }
+// The call with so many places lent for cuts, and so many for levels. Each cut is made of a shore and a weight before it, and they of the cut after it.
+pub fn plan_cuts(
+    file: &[u8],
+    lists: &mut Lists,
+    room: usize,
+    levels: usize,
+) -> Result<PlannedCuts, Kind>
+    requires { (room ≤ 126) × (levels ≤ 64) }
 {
-    let Lists {
-        mut rows,
-        mut levels,
-        ..
-    } = Lists::marked();
-    let mark = Cut {
-        shore: Junctions(tries::SHORE),
-        weight: tries::NUMBER,
-    };
-    let mut cuts = [mark; 126];
-    let reply = lanes::plan_lanes(file, &mut rows, &mut cuts[..room], &mut levels);
-    Tried {
-        reply,
-        lists: Lists {
-            rows,
-            shores: cuts.map(|cut| cut.shore.0),
-            weights: cuts.map(|cut| cut.weight),
-            levels,
-        },
-    }
+    let mut cuts: [Cut; 126] = array::from_fn(|k| Cut {
+        shore: Junctions(lists.shores[k]),
+        weight: lists.weights[k],
+    });
+    let reply = plancuts::plan_cuts(file, &mut cuts[..room], &mut lists.levels[..levels]);
+    lists.shores = cuts.map(|cut| cut.shore.0);
+    lists.weights = cuts.map(|cut| cut.weight);
+    reply
 }

@@ -29,6 +29,13 @@ pub struct Size {
 }
 
 impl Size {
+    pub fn of(n: usize, rows: usize, prices: u64) -> Size
+        requires { (1 ≤ n) × (n ≤ 6) × (rows ≤ 10) × (1 ≤ prices) × (prices ≤ 255) }
+        ensures { (result.n ≡ n) × (result.rows ≡ rows) × (result.prices ≡ prices) }
+    {
+        Size { n, rows, prices }
+    }
+
     // The hall of a number: its digits, in the base of how many rows can be drawn, are the rows.
     // There is none of a number that has more digits than the hall has rows.
     pub fn hall(self, number: u64) -> Option<Small>

@@ -1,9 +1,10 @@
-// One small hall planned, and the plan judged.
+// One small hall planned by both calls, and the plan that their replies make together judged.
 use judge::Plan;
-use planning::Planned;
+use planpairs::PlannedCuts;
+use planrows::PlannedRows;
 use refusals::Kind;
 use smallhalls::{Small, file};
-use tries::{Lists, Room, Tried};
+use tries::{Lists, Tried};
 
 #[derive(Clone, Copy, PartialEq, Eq, Debug)]
 pub enum Outcome {
@@ -14,10 +15,10 @@ pub enum Outcome {
 }
 
 // Whether the plan is right, and nothing is written after it.
-fn is_right(hall: &Small, planned: Planned, lists: &Lists) -> bool {
-    let chosen = planned.chosen as usize;
-    let cuts = planned.cuts as usize;
-    let levelled = planned.levels as usize;
+fn is_right(hall: &Small, first: PlannedRows, beside: PlannedCuts, lists: &Lists) -> bool {
+    let chosen = first.chosen as usize;
+    let cuts = beside.cuts as usize;
+    let levelled = beside.levels as usize;
     let (Some(rows), Some(shores), Some(weights), Some(levels)) = (
         lists.rows.get(..chosen),
         lists.shores.get(..cuts),
@@ -28,7 +29,7 @@ fn is_right(hall: &Small, planned: Planned, lists: &Lists) -> bool {
     };
     let plan = Plan {
         rows,
-        total: planned.total,
+        total: first.total,
         shores,
         weights,
         levels,
@@ -41,25 +42,19 @@ fn has_fixed_cut(hall: &Small) -> bool {
     exhaustive::all_join(hall) && !exhaustive::unfixed_join(hall)
 }
 
-// A reply beside the choices of its hall.
+// The replies beside the choices of their hall.
 fn judged(hall: &Small, tried: &Tried) -> Outcome {
     let lists = &tried.lists;
-    match tried.reply {
-        Ok(planned) if is_right(hall, planned, lists) => Outcome::Same,
-        Err(Kind::Unjoined) if !exhaustive::all_join(hall) && lists.kept_after(0, 0, 0) => {
-            Outcome::Unjoined
-        }
-        Err(Kind::FixedCut) if has_fixed_cut(hall) && lists.kept_after(0, 0, 0) => Outcome::Fixed,
+    match (tried.rows, tried.cuts) {
+        (Ok(first), Ok(beside)) if is_right(hall, first, beside, lists) => Outcome::Same,
+        (Err(Kind::Unjoined), Err(Kind::Unjoined))
+            if !exhaustive::all_join(hall) && lists.kept_after(0, 0, 0) => { Outcome::Unjoined }
+        (Err(Kind::FixedCut), Err(Kind::FixedCut))
+            if has_fixed_cut(hall) && lists.kept_after(0, 0, 0) => { Outcome::Fixed }
         _ => Outcome::Different,
     }
 }
 
 pub fn compared(hall: &Small) -> Outcome {
-    let room = Room {
-        rows: 256,
-        shores: 125,
-        weights: 125,
-        levels: 64,
-    };
-    judged(hall, &tries::plan(file::bytes_of(hall).as_slice(), room))
+    judged(hall, &tries::plan(file::bytes_of(hall).as_slice()))
 }

@@ -72,37 +72,9 @@ fn try_random(rt: &impl Print, halls: u64, seed: u64) -> io::Result<()> {
 }
 
 fn main(rt: HostRuntime) -> io::Result<()> {
-    try_all(
-        &rt,
-        Size {
-            n: 1,
-            rows: 5,
-            prices: 3,
-        },
-    )?;
-    try_all(
-        &rt,
-        Size {
-            n: 2,
-            rows: 5,
-            prices: 3,
-        },
-    )?;
-    try_all(
-        &rt,
-        Size {
-            n: 3,
-            rows: 4,
-            prices: 3,
-        },
-    )?;
-    try_all(
-        &rt,
-        Size {
-            n: 4,
-            rows: 4,
-            prices: 2,
-        },
-    )?;
+    try_all(&rt, Size::of(1, 5, 3))?;
+    try_all(&rt, Size::of(2, 5, 3))?;
+    try_all(&rt, Size::of(3, 4, 3))?;
+    try_all(&rt, Size::of(4, 4, 2))?;
     try_random(&rt, 200_000, 1)
 }

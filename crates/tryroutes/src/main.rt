@@ -129,37 +129,9 @@ fn try_random(rt: &impl Print, halls: u64, seed: u64) -> io::Result<()> {
 }
 
 fn main(rt: HostRuntime) -> io::Result<()> {
-    try_all(
-        &rt,
-        Size {
-            n: 1,
-            rows: 3,
-            prices: 1,
-        },
-    )?;
-    try_all(
-        &rt,
-        Size {
-            n: 2,
-            rows: 4,
-            prices: 1,
-        },
-    )?;
-    try_all(
-        &rt,
-        Size {
-            n: 3,
-            rows: 3,
-            prices: 1,
-        },
-    )?;
-    try_all(
-        &rt,
-        Size {
-            n: 4,
-            rows: 3,
-            prices: 1,
-        },
-    )?;
+    try_all(&rt, Size::of(1, 3, 1))?;
+    try_all(&rt, Size::of(2, 4, 1))?;
+    try_all(&rt, Size::of(3, 3, 1))?;
+    try_all(&rt, Size::of(4, 3, 1))?;
     try_random(&rt, 20_000, 1)
 }
