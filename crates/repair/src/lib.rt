@@ -5,7 +5,7 @@
 ghost use Rattle.std.specs.Prelude.{◌≡◌, true, ℕ, suc, ◌<◌};
 ghost use Rattle.laws.specs.Lists.{at};
 ghost use Rattle.hall.specs.Hall.{Hall};
-ghost use Rattle.dicuts.specs.Shores.{Ranged};
+ghost use Rattle.dicuts.specs.Shores.{Ranged, once, Joining};
 ghost use Rattle.potentials.specs.Repair.{Repairable};
 ghost use Rattle.columns.specs.Columns.{flagged, Columns, Neighbourhoods};
 ghost use Rattle.columns.specs.Lanes.{LanesOf};
@@ -24,6 +24,22 @@ pub struct State {
     pub chosen: [bool; 256],
     pub potential: [u64; 64],
     pub around: [u64; 64],
+}
+
+impl State {
+    // A choice at a potential, with its tight neighbourhoods where it joins.
+    pub fn of(lanes: &Lanes, chosen: [bool; 256], potential: [u64; 64]) -> State
+        ensures chosen { result.chosen ≡ chosen }
+        ensures potential { result.potential ≡ potential }
+        ensures around { (h : Hall) → LanesOf h lanes.now → Ranged h → Joining h (once (flagged chosen)) →
+            Neighbourhoods h (flagged chosen) result.around }
+    {
+        State {
+            chosen,
+            potential,
+            around: tight::neighbourhoods(lanes, &chosen),
+        }
+    }
 }
 
 // The place of the first chosen row with a gap, from a place on.
@@ -73,11 +89,7 @@ pub fn repair_step(
         let next = flip(
             network, chosen, &graph, &distances, start, target, row, false,
         );
-        State {
-            chosen: next,
-            potential: *network.potential,
-            around: tight::neighbourhoods(network.lanes, &next),
-        }
+        State::of(network.lanes, next, *network.potential)
     } else {
         State {
             chosen: *chosen,
