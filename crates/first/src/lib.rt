@@ -40,11 +40,7 @@ pub fn change(network: &Network<'_>, chosen: &[bool; 256], around: &[u64; 64], k
     let Search { set, distances } = digraph::reach(&graph, start);
     if has(set, head) {
         let next = flip(network, chosen, &graph, &distances, start, target, k, true);
-        State {
-            chosen: next,
-            potential: *network.potential,
-            around: tight::neighbourhoods(network.lanes, &next),
-        }
+        State::of(network.lanes, next, *network.potential)
     } else {
         State {
             chosen: *chosen,

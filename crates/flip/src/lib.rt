@@ -8,8 +8,8 @@ ghost use Rattle.digraph.specs.Paths.{Distances};
 ghost use Rattle.hall.specs.Hall.{Hall};
 ghost use Rattle.potentials.specs.ZeroGraph.{opens, closes};
 ghost use Rattle.columns.specs.Columns.{flagged};
+ghost use Rattle.columns.specs.Lanes.{RowsOf};
 ghost use Rattle.flip.specs.Flips.{FirstPlace, Made, Walked};
-ghost use Rattle.zerograph.specs.Rows.{RowsOf};
 ghost use Rattle.zerograph.specs.Zero.{ZeroGraph};
 
 use zerograph::Network;

@@ -3,8 +3,11 @@ use mathlib.Core.Path.{◌≡◌, refl, sym, ap, ◌∙◌}
 use mathlib.Core.Bool.{Bool, true, false, ◌||◌}
 use mathlib.Core.List.{List}
 use mathlib.Core.Option.{none, some}
-use Prim.Native.Nat.{ℕ, ◌≤◌}
+use Prim.Native.Nat.{ℕ, ◌≤◌, ◌<◌}
+use native.Mathlib.Omega.{arith}
 use lib.Dec.{eqb, ltb}
+use borrow.Author.Tests.{eqb-false, ne_eqb, le-ltb, lt-ltb}
+use Rattle.laws.proofs.Booleans.{by_bool}
 use Rattle.junctions.specs.declared.Junctions.{Junctions}
 use Rattle.hall.specs.Hall.{Hall, count, is_choice, member, missed, is_none, joins, tight_around}
 use Rattle.dicuts.specs.Shores.{Ranged, Joining, once, around}
@@ -18,22 +21,27 @@ use Rattle.neighbourhood.specs.Tight.{around_or_missed, tight_finding}
 
 module _ (bs c : List ℕ) (j : ℕ) where
   -- the junction is none of 1 to n
-  abbrev pub outside : (n : ℕ) → Bool
+  abbrev outside : (n : ℕ) → Bool
   outside n = eqb j 0 || ltb n j
 
   module _ (n : ℕ) (same : n ≡ (hall_in bs).n) where
-    pub found_outside : outside n ≡ true → Around (record { 0 = 0 }) ≡ tight_finding (outside (hall_in bs).n) bs c j
+    pub found_outside : (1 ≤ j → n < j) → Around (record { 0 = 0 }) ≡ tight_finding (outside (hall_in bs).n) bs c j
     unfolding tight_finding
-    found_outside t = rw (← same) (rw t refl)
+    found_outside over =
+        rw (← same)
+        (by_bool (eqb j 0) (λ e. rw e refl) (λ e. rw (e, lt-ltb n j (over (omega (arith, eqb-false j 0 e)))) refl))
 
-    module _ (t : outside n ≡ false) where
+    module _ (least : 1 ≤ j) (most : j ≤ n) where
+      inside : outside n ≡ false
+      inside = rw (ne_eqb j 0 (λ e. omega arith), le-ltb n j most) refl
+
       pub found_missed : (s : Junctions) → some s.0 ≡ missed (hall_in bs) c → Misses s ≡ tight_finding (outside (hall_in bs).n) bs c j
       unfolding tight_finding around_or_missed
-      found_missed s e = rw (← same) (rw (t, ← e) refl)
+      found_missed s e = rw (← same) (rw (inside, ← e) refl)
 
       pub found_around : none ≡ missed (hall_in bs) c → (set : ℕ) → set ≡ tight_around (hall_in bs) c j → Around (record { 0 = set }) ≡ tight_finding (outside (hall_in bs).n) bs c j
       unfolding tight_finding around_or_missed
-      found_around e set is = rw (← same) (rw (t, ← e, is) refl)
+      found_around e set is = rw (← same) (rw (inside, ← e, is) refl)
 
 -- the neighbourhood that the code finds is the one of document 03
 pub around_found :

@@ -15,8 +15,7 @@ pub fn tight_neighbourhood(file: &[u8], choice: &[u32], junction: u32) -> Result
     let opened = opening::open_choice(file, choice)?;
     let lanes = &opened.hall.lanes;
     let v = junction as usize;
-    let outside = (v == 0) | (lanes.n < v);
-    if outside {
+    if v == 0 || lanes.n < v {
         return Ok(Finding::Around(Junctions::EMPTY));
     }
     if let Some(shore) = choice::missed_shore(lanes, &opened.chosen) {

@@ -39,51 +39,51 @@ module _ (h : Hall) (ln : Lanes) (costs : List ℕ) (rows : List Bool) (rd : Rea
   pub cheapest_low : (s : State) → length s.potential ≡ 64 → Cheapest h costs rows s → (j : ℕ) → get_or s.potential j 0 < 2 ^ 61
   cheapest_low s long least = levels_below (2 ^ 61) s.potential (omega arith) long (λ j l u. omega (arith, least.low j l u, rows_low))
 
--- the potential 0
-module _ (h : Hall) (ln : Lanes) (costs : List ℕ) (rows chosen : List Bool) (rd : Ready h ln rows)
-    (inside : Among chosen rows) (joins : Joining h (once (flagged chosen))) where
-  abbrev level : List ℕ
-  level = replicate 64 0
+-- a choice that joins at the potential 0, with its neighbourhoods
+module _ (h : Hall) (ln : Lanes) (costs : List ℕ) (rows : List Bool) (rd : Ready h ln rows)
+    (chosen : List Bool) (inside : Among chosen rows) (joins : Joining h (once (flagged chosen)))
+    (s : State) (is : s.chosen ≡ chosen) (flat : s.potential ≡ replicate 64 0) (around : Neighbourhoods h (flagged chosen) s.around) where
+  zero_level : (j : ℕ) → 1 ≤ j → j ≤ 64 → at s.potential j ≡ 0
+  zero_level j l u = rw flat (get_or-replicate 64 (j - 1) 0 0 (omega arith))
 
-  zero_level : (j : ℕ) → 1 ≤ j → j ≤ 64 → at level j ≡ 0
-  zero_level j l u = get_or-replicate 64 (j - 1) 0 0 (omega arith)
-
-  flat_level : (j : ℕ) → 1 ≤ j → j ≤ h.n → at level j ≡ 0
+  flat_level : (j : ℕ) → 1 ≤ j → j ≤ h.n → at s.potential j ≡ 0
   flat_level j l u = zero_level j l (omega (arith, rd.columns.junctions, ln.ends.size))
 
   -- the slack is at most what the rows cost
-  slack_rows : slack h (at costs) (at level) (flagged chosen) ≤ cost h (at costs) (flagged rows)
+  slack_rows : slack h (at costs) (at s.potential) (flagged s.chosen) ≤ cost h (at costs) (flagged rows)
   slack_rows =
-      omega (
+      rw is
+      (omega (
         arith,
-        flat_slack h rd.ranged (at costs) (at level) (flagged chosen) flat_level,
+        flat_slack h rd.ranged (at costs) (at s.potential) (flagged chosen) flat_level,
         cost_mono h (at costs) (flagged chosen) (flagged rows) (λ i l u t. inside (i - 1) t),
-      )
+      ))
 
-  pub flat_can : Repairable h (at costs) (at level) (flagged chosen)
-  flat_can = flat_repairable h rd.ranged (at costs) (at level) (flagged chosen) flat_level joins
+  flat_can : Repairable h (at costs) (at s.potential) (flagged s.chosen)
+  flat_can = rw is (flat_repairable h rd.ranged (at costs) (at s.potential) (flagged chosen) flat_level joins)
 
-  module _ (near : List ℕ) (around : Neighbourhoods h (flagged chosen) near) where
-    abbrev pub flat : State
-    flat = record { chosen = chosen; potential = level; around = near }
+  near : Neighbourhoods h (flagged s.chosen) s.around
+  near = rw is around
 
-    pub flat_start : Modest costs → RepairStart ln costs flat
-    flat_start modest =
-        record {
-          hall = h;
-          columns = rd.columns;
-          ranged = rd.ranged;
-          repairable = flat_can;
-          around = around;
-          bound = λ j l u. omega (arith, zero_level j l u, slack_rows, rows_low h ln costs rows rd modest);
-        }
+  pub flat_start : Modest costs → RepairStart ln costs s
+  flat_start modest =
+      record {
+        hall = h;
+        columns = rd.columns;
+        ranged = rd.ranged;
+        repairable = flat_can;
+        around = near;
+        bound = λ j l u. omega (arith, zero_level j l u, slack_rows, rows_low h ln costs rows rd modest);
+      }
 
-    pub flat_end : (s : State) → RepairEnd h (at costs) flat s → Cheapest h costs rows s
-    flat_end s end = record {
-      repaired = end.repaired;
-      around = end.around;
-      low = λ j l u. omega (arith, end.bound j l u, zero_level j l u, slack_rows);
-    }
+  pub flat_end :
+      (end : State) → (Repairable h (at costs) (at s.potential) (flagged s.chosen) → Neighbourhoods h (flagged s.chosen) s.around →
+      RepairEnd h (at costs) s end) → Cheapest h costs rows end
+  flat_end end repair = let done = repair flat_can near in record {
+    repaired = done.repaired;
+    around = done.around;
+    low = λ j l u. omega (arith, done.bound j l u, zero_level j l u, slack_rows);
+  }
 
 -- at costs that are the ranked ones, what is repaired is repaired at these
 pub ranked_repaired :

@@ -25,12 +25,7 @@ pub fn cheapest(lanes: &Lanes, costs: &Costs, rows: [bool; 256]) -> State
     ensures { (h : Hall) → Ready h lanes.now rows → Cheapest h costs.now.rows rows result }
 {
     let chosen = pruning::start(lanes, &costs.rows, rows);
-    let around = tight::neighbourhoods(lanes, &chosen);
-    let state = State {
-        chosen,
-        potential: [0; 64],
-        around,
-    };
+    let state = State::of(lanes, chosen, [0; 64]);
     repair::repair(lanes, costs, state)
 }
 

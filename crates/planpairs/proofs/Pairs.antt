@@ -1,16 +1,16 @@
 -- Each reply of the cuts' call over two number lists says what `PairSays` asks. Assumes nothing.
 use mathlib.Core.Path.{◌≡◌, refl, sym, ◌∙◌, subst}
-use mathlib.Core.Bool.{Bool, true, false, ◌||◌, cond}
+use mathlib.Core.Bool.{true, false}
 use mathlib.Core.List.{List}
 use Prim.Native.Nat.{ℕ, zero, suc, ◌-◌, ◌≤◌}
 use native.Mathlib.Omega.{arith}
 use lib.Dec.{eqb, ltb}
 use lib.IntN.{ℤ}
 use lib.ListN.{length, replicate, get_or-replicate}
-use borrow.Author.Tests.{ltb-false}
+use borrow.Author.Tests.{ltb-false, le-ltb}
 use Rattle.std.specs.Prelude.{Result, Ok, Err}
 use Rattle.laws.specs.Lists.{at}
-use Rattle.laws.proofs.Booleans.{by_bool, clash, cond_true, cond_false, or_false_l, or_false_r}
+use Rattle.laws.proofs.Booleans.{by_bool, clash}
 use Rattle.hall.specs.Hall.{Hall}
 use Rattle.hall.specs.File.{hall_in, hall_refusal, refusal}
 use Rattle.refusals.specs.declared.Kind.{Kind}
@@ -86,41 +86,36 @@ module _ (bs a b : List ℕ) (d : List ℤ) where
   abbrev pub Says : Result PlannedCuts Kind → (x y : List ℕ) → (w : List ℤ) → Type 0
   Says r x y w = PairSays bs (answered r) (figure (λ (p : PlannedCuts). p.cuts) r) (figure (λ (p : PlannedCuts). p.levels) r) a x b y d w
 
-  -- some list is too short
-  abbrev short : Bool
-  short = ltb (length a) 125 || (ltb (length b) 125 || ltb (length d) 64)
-
-  all_room : room_for 125 (length a) (room_for 125 (length b) (room_for 64 (length d) (hall_refusal bs))) ≡ cond short (refusal 1 0) (hall_refusal bs)
-  unfolding room_for
-  all_room =
-      by_bool (ltb (length a) 125) (λ s. rw s refl)
-      (λ s. by_bool (ltb (length b) 125) (λ t. rw (s, t) refl) (λ t. rw (s, t) refl))
+  -- no list is too short
+  abbrev Room : Type 0
+  Room = (125 ≤ length a) × (125 ≤ length b) × (64 ≤ length d)
 
   refused_as : (n : ℕ) → eqb n 0 ≡ false → PairAs n (hall_in bs) 0 0 a a b b d d
   unfolding PairAs
   refused_as zero f = clash refl f
   refused_as (suc n) f = (refl, refl, refl, refl, refl)
 
-  says_err : (k : Kind) → refusal_of k ≡ cond short (refusal 1 0) (hall_refusal bs) → Says (Err k) a b d
+  says_err : (k : Kind) → refusal_of k ≡ room_for 125 (length a) (room_for 125 (length b) (room_for 64 (length d) (hall_refusal bs))) → Says (Err k) a b d
   unfolding PairSays answered figure
-  says_err k e = (e ∙ sym all_room, refused_as (refusal_of k).number (kind_number k).0)
+  says_err k e = (e, refused_as (refusal_of k).number (kind_number k).0)
 
-  pub says_short : short ≡ true → Says (Err ListShort) a b d
-  unfolding refusal_of
-  says_short t = says_err ListShort (sym (cond_true short (refusal 1 0) (hall_refusal bs) t))
+  pub says_short : (Room → ⊥) → Says (Err ListShort) a b d
+  unfolding refusal_of room_for
+  says_short cramped =
+      says_err ListShort
+      (by_bool (ltb (length a) 125) (λ r. rw r refl)
+      (λ r. by_bool (ltb (length b) 125) (λ s. rw (r, s) refl)
+      (λ s. by_bool (ltb (length d) 64) (λ t. rw (r, s, t) refl)
+      (λ t. absurd (cramped (ltb-false (length a) 125 r, ltb-false (length b) 125 s, ltb-false (length d) 64 t))))))
 
-  module _ (t : short ≡ false) where
+  module _ (room : Room) where
+    past_room : room_for 125 (length a) (room_for 125 (length b) (room_for 64 (length d) (hall_refusal bs))) ≡ hall_refusal bs
+    unfolding room_for
+    past_room = rw (le-ltb (length a) 125 room.0, le-ltb (length b) 125 room.1, le-ltb (length d) 64 room.2) refl
+
     pub says_refused : (k : Kind) → refusal_of k ≡ hall_refusal bs → Says (Err k) a b d
-    says_refused k e = says_err k (e ∙ sym (cond_false short (refusal 1 0) (hall_refusal bs) t))
+    says_refused k e = says_err k (e ∙ sym past_room)
 
     pub says_pairs : refusal 0 0 ≡ hall_refusal bs → (r : PlannedCuts) (x y : List ℕ) (w : List ℤ) → PairAs 0 (hall_in bs) r.cuts r.levels a x b y d w → Says (Ok r) x y w
     unfolding PairSays answered figure refusal
-    says_pairs fine r x y w pairs = (fine ∙ sym (cond_false short (refusal 1 0) (hall_refusal bs) t) ∙ sym all_room, pairs)
-
-    pub room : (125 ≤ length a) × (125 ≤ length b) × (64 ≤ length d)
-    room =
-        let rest = or_false_r (ltb (length a) 125) (ltb (length b) 125 || ltb (length d) 64) t in (
-          ltb-false (length a) 125 (or_false_l (ltb (length a) 125) (ltb (length b) 125 || ltb (length d) 64) t),
-          ltb-false (length b) 125 (or_false_l (ltb (length b) 125) (ltb (length d) 64) rest),
-          ltb-false (length d) 64 (or_false_r (ltb (length b) 125) (ltb (length d) 64) rest),
-        )
+    says_pairs fine r x y w pairs = (fine ∙ sym past_room, pairs)

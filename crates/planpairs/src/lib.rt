@@ -68,8 +68,7 @@ pub fn plan_pairs(
     ensures { PairSays file.now (answered result) (figure (λ (p : PlannedCuts). p.cuts) result) (figure (λ (p : PlannedCuts). p.levels) result)
         shores.old shores.new weights.old weights.new levels.old levels.new }
 {
-    let short = (shores.len() < 125) | ((weights.len() < 125) | (levels.len() < 64));
-    if short {
+    if shores.len() < 125 || weights.len() < 125 || levels.len() < 64 {
         return Err(Kind::ListShort);
     }
     let hall = hallfile::read_hall(file)?;

@@ -7,7 +7,7 @@ ghost use Rattle.laws.specs.Lists.{at};
 ghost use Rattle.hall.specs.Hall.{Hall};
 ghost use Rattle.potentials.specs.ZeroGraph.{raised};
 ghost use Rattle.columns.specs.Columns.{flagged, Neighbourhoods};
-ghost use Rattle.zerograph.specs.Rows.{RowsOf};
+ghost use Rattle.columns.specs.Lanes.{RowsOf};
 ghost use Rattle.raise.specs.Rooms.{Most, RowsAllow, OverSet, NearAllow, Room, RaisedFor};
 
 use junctions::{Places, has};

@@ -32,6 +32,7 @@ use Rattle.potentials.proofs.Slack.{slack-raised, raised_bound, slack-flipped}
 use Rattle.zerograph.specs.Zero.{ZeroGraph}
 use Rattle.raise.specs.Rooms.{Room, RaisedFor}
 use Rattle.flip.specs.Flips.{turning}
+use Rattle.repair.specs.declared.State.{State}
 use Rattle.repair.specs.Repairs.{unpaid, Free, Stepped}
 
 module _ (h : Hall) (m : ℕ → Bool) (c : ℕ → ℕ) (potential : List ℕ) (chosen : List Bool) where
@@ -96,17 +97,17 @@ module _ (h : Hall) (m : ℕ → Bool) (c : ℕ → ℕ) (potential : List ℕ) 
         }
 
     pub stepped_flip :
-        (next : List Bool) (nears : List ℕ) → flagged next i ≡ false → Flip h m c p F (flagged next) → Neighbourhoods h (flagged next) nears →
-        Stepped h c p F (record { chosen = next; potential = potential; around = nears })
+        (to : State) → to.potential ≡ potential → flagged to.chosen i ≡ false → Flip h m c p F (flagged to.chosen) →
+        Neighbourhoods h (flagged to.chosen) to.around → Stepped h c p F to
     unfolding gap
-    stepped_flip next nears dropped flip around =
-        let less : slack h c p (flagged next) + gap h c p i ≤ slack h c p F =
-        slack-flipped h c p F (flagged next) (λ k lk uk g e. omega (arith, flip.new k g e)) i l u row_chosen dropped in
+    stepped_flip to same dropped flip around =
+        let less : slack h c p (flagged to.chosen) + gap h c p i ≤ slack h c p F =
+        slack-flipped h c p F (flagged to.chosen) (λ k lk uk g e. omega (arith, flip.new k g e)) i l u row_chosen dropped in
         record {
-          repairable = record { joining = flip.joining; under = start.under; parted = flip.parted };
+          repairable = rw same (record { joining = flip.joining; under = start.under; parted = flip.parted });
           around = around;
-          less = omega (arith, less, row-gap);
-          bound = λ j lj uj. omega (arith, less);
+          less = rw same (omega (arith, less, row-gap));
+          bound = λ j lj uj. rw same (omega (arith, less));
         }
 
     -- the row leads back from its tail to its head, and is closed

@@ -5,10 +5,10 @@
 ghost use Rattle.std.specs.Prelude.{◌≡◌, true, ℕ, suc, ◌<◌};
 ghost use Rattle.laws.specs.Lists.{at};
 ghost use Rattle.hall.specs.Hall.{Hall};
-ghost use Rattle.dicuts.specs.Shores.{Ranged};
+ghost use Rattle.dicuts.specs.Shores.{Ranged, once, Joining};
 ghost use Rattle.potentials.specs.Repair.{Repairable};
-ghost use Rattle.columns.specs.Columns.{flagged, Columns, Neighbourhoods};
-ghost use Rattle.columns.specs.Lanes.{LanesOf};
+ghost use Rattle.columns.specs.Columns.{flagged, Neighbourhoods};
+ghost use Rattle.columns.specs.Lanes.{RowsOf, LanesOf};
 ghost use Rattle.repair.specs.Repairs.{unpaid, FirstUnpaid, SomeUnpaid, Free, Stepped, RepairStart, RepairEnd};
 
 use columns::{Costs, Lane, Lanes};
@@ -26,9 +26,25 @@ pub struct State {
     pub around: [u64; 64],
 }
 
+impl State {
+    // A choice at a potential, with its tight neighbourhoods where it joins.
+    pub fn of(lanes: &Lanes, chosen: [bool; 256], potential: [u64; 64]) -> State
+        ensures chosen { result.chosen ≡ chosen }
+        ensures potential { result.potential ≡ potential }
+        ensures around { (h : Hall) → LanesOf h lanes.now → Ranged h → Joining h (once (flagged chosen)) →
+            Neighbourhoods h (flagged chosen) result.around }
+    {
+        State {
+            chosen,
+            potential,
+            around: tight::neighbourhoods(lanes, &chosen),
+        }
+    }
+}
+
 // The place of the first chosen row with a gap, from a place on.
 pub fn unpaid(network: &Network<'_>, chosen: &[bool; 256], from: usize) -> Option<usize>
-    ensures { (h : Hall) (n : ℕ) → Columns h n network.now.lanes.now.count network.now.lanes.now.tails network.now.lanes.now.heads →
+    ensures { (h : Hall) (n : ℕ) → RowsOf h n network.now.lanes.now →
         FirstUnpaid h (at network.now.costs.now.rows) (at network.now.potential.now) (flagged chosen.now) from network.now.lanes.now.count result }
 {
     for k in from..network.lanes.count {
@@ -42,7 +58,7 @@ pub fn unpaid(network: &Network<'_>, chosen: &[bool; 256], from: usize) -> Optio
 
 // The place of a chosen row with a gap: from the last such row on, then from the start.
 pub fn next_unpaid(network: &Network<'_>, chosen: &[bool; 256], last: usize) -> Option<usize>
-    ensures { (h : Hall) (n : ℕ) → Columns h n network.now.lanes.now.count network.now.lanes.now.tails network.now.lanes.now.heads →
+    ensures { (h : Hall) (n : ℕ) → RowsOf h n network.now.lanes.now →
         SomeUnpaid h (at network.now.costs.now.rows) (at network.now.potential.now) (flagged chosen.now) network.now.lanes.now.count result }
 {
     match unpaid(network, chosen, last) {
@@ -73,11 +89,7 @@ pub fn repair_step(
         let next = flip(
             network, chosen, &graph, &distances, start, target, row, false,
         );
-        State {
-            chosen: next,
-            potential: *network.potential,
-            around: tight::neighbourhoods(network.lanes, &next),
-        }
+        State::of(network.lanes, next, *network.potential)
     } else {
         State {
             chosen: *chosen,

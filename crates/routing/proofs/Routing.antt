@@ -7,10 +7,10 @@ use Prim.Native.Nat.{ℕ, ◌≤◌, ◌<◌}
 use lib.Dec.{leb, ltb, eqb}
 use lib.IntN.{ℤ}
 use lib.ListN.{length}
-use borrow.Author.Tests.{lt-ltb, le-ltb, leb-true}
+use borrow.Author.Tests.{lt-ltb, le-ltb, le-leb, leb-true}
 use Rattle.std.specs.Prelude.{Ok, Err}
 use Rattle.laws.specs.Lists.{in_front}
-use Rattle.laws.proofs.Booleans.{and_l, and_r, cond_true, cond_false}
+use Rattle.laws.proofs.Booleans.{not_true_false, and_l, and_r, cond_true, cond_false}
 use Rattle.junctions.specs.declared.Junctions.{Junctions}
 use Rattle.hall.specs.Hall.{missed, is_none, joins}
 use Rattle.hall.specs.File.{hall_in, Refusal, refusal, or_else}
@@ -30,18 +30,25 @@ none_joins bs c e = ap is_none (sym e)
 
 module _ (n a b : ℕ) where
   -- both junctions are among 1 to n
-  abbrev pub inside : Bool
+  abbrev pub Inside : Type 0
+  Inside = (1 ≤ a) × (a ≤ n) × (1 ≤ b) × (b ≤ n)
+
+  abbrev inside : Bool
   inside = (leb 1 a && leb a n) && (leb 1 b && leb b n)
 
-  pub inside_ends : inside ≡ true → (1 ≤ a) × (a ≤ n) × (1 ≤ b) × (b ≤ n)
-  inside_ends t =
+  inside-true : Inside → inside ≡ true
+  inside-true (low, high, least, most) = rw (le-leb 1 a low, le-leb a n high, le-leb 1 b least, le-leb b n most) refl
+
+  inside-false : (Inside → ⊥) → inside ≡ false
+  inside-false out = not_true_false inside (λ t.
       let from = and_l (leb 1 a && leb a n) (leb 1 b && leb b n) t in
-      let to = and_r (leb 1 a && leb a n) (leb 1 b && leb b n) t in (
+      let to = and_r (leb 1 a && leb a n) (leb 1 b && leb b n) t in
+      out (
         leb-true 1 a (and_l (leb 1 a) (leb a n) from),
         leb-true a n (and_r (leb 1 a) (leb a n) from),
         leb-true 1 b (and_l (leb 1 b) (leb b n) to),
         leb-true b n (and_r (leb 1 b) (leb b n) to),
-      )
+      ))
 
 module _ (bs c : List ℕ) (a b : ℕ) (old : List ℤ) where
   abbrev n : ℕ
@@ -69,13 +76,13 @@ module _ (bs c : List ℕ) (a b : ℕ) (old : List ℤ) where
       unfolding or_else refusal
       past_choice = past_room ∙ ap (λ (f : Refusal). or_else f (end_refusal n a b)) fine ∙ ap (λ (k : ℕ). end_refusal k a b) same
 
-      pub route_outside : inside m a b ≡ false → RouteSays bs c a b (Err RouteEnd) old old
+      pub route_outside : (Inside m a b → ⊥) → RouteSays bs c a b (Err RouteEnd) old old
       unfolding refusal_of
-      route_outside t = says_err RouteEnd (sym (past_choice ∙ cond_false (inside m a b) (refusal 0 0) (refusal 11 0) t))
+      route_outside out = says_err RouteEnd (sym (past_choice ∙ cond_false (inside m a b) (refusal 0 0) (refusal 11 0) (inside-false m a b out)))
 
-      module _ (t : inside m a b ≡ true) where
+      module _ (ends : Inside m a b) where
         none_due : refusal 0 0 ≡ route_refusal bs c a b (length old)
-        none_due = sym (past_choice ∙ cond_true (inside m a b) (refusal 0 0) (refusal 11 0) t)
+        none_due = sym (past_choice ∙ cond_true (inside m a b) (refusal 0 0) (refusal 11 0) (inside-true m a b ends))
 
         pub route_missed : (s : Junctions) → some s.0 ≡ missed (hall_in bs) c → RouteSays bs c a b (Ok (Misses s)) old old
         unfolding RouteSays WayFor answered

@@ -64,8 +64,7 @@ pub fn route(file: &[u8], choice: &[u32], from: u32, to: u32, rows: &mut [i32]) 
     let (from, to) = (from as usize, to as usize);
     let arcs = adjacency::of_rows(lanes, chosen);
     let shore = choice::shortfall(&arcs, lanes.n);
-    let inside = ((1 <= from) & (from <= lanes.n)) & ((1 <= to) & (to <= lanes.n));
-    if !inside {
+    if from == 0 || lanes.n < from || to == 0 || lanes.n < to {
         return Err(Kind::RouteEnd);
     }
     if let Some(shore) = shore {

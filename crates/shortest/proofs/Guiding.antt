@@ -17,7 +17,8 @@ use Rattle.routes.specs.Reached.{FewestTo}
 use Rattle.routes.specs.Nearer.{Nearer, LowestStep}
 use Rattle.routes.proofs.Steps.{starts-ahead, starts-back, ends-ahead, ends-back, may_intro, may_low, may_high, may_back}
 use Rattle.routes.proofs.Shortest.{direction, some_nearer}
-use Rattle.columns.specs.Columns.{flagged, Columns}
+use Rattle.columns.specs.Columns.{flagged}
+use Rattle.columns.specs.Lanes.{RowsOf}
 use Rattle.columns.specs.declared.Lanes.{Lanes}
 use Rattle.shortest.specs.Steps.{leads_nearer, nearer_row, LowestOver, RowsOver, step_at, Guided}
 
@@ -41,7 +42,7 @@ nearer_is h c D x first s near e =
     ap₂ (λ (i : ℕ) (d : Bool). record { number = i; back = d }) e (direction h c D x s near ∙ ap (λ (i : ℕ). not (eqb (row h i).from x)) e) in
     subst (Nearer h c D x) is near
 
-module _ (h : Hall) (l : Lanes) (fs : List Bool) (c : List ℕ) (cols : Columns h h.n l.count l.tails l.heads) (same : (i : ℕ) → 1 ≤ i → i ≤ l.count → flagged fs i ≡ member i c) (D : ℕ → ℕ) where
+module _ (h : Hall) (l : Lanes) (fs : List Bool) (c : List ℕ) (cols : RowsOf h h.n l) (same : (i : ℕ) → 1 ≤ i → i ≤ l.count → flagged fs i ≡ member i c) (D : ℕ → ℕ) where
   step_row : (x : ℕ) (s : Step) → Nearer h c D x s → nearer_row l fs D x s.number ≡ true
   unfolding nearer_row
   step_row x s near =

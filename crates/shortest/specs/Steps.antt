@@ -7,12 +7,13 @@ use Rattle.dicuts.specs.Shores.{Ranged}
 use Rattle.routes.specs.Route.{Step}
 use Rattle.routes.specs.Reached.{FewestTo, ArcsOf}
 use Rattle.routes.specs.Nearer.{LowestStep}
-use Rattle.columns.specs.Columns.{flagged, Columns}
+use Rattle.columns.specs.Columns.{flagged}
+use Rattle.columns.specs.Lanes.{RowsOf}
 use Rattle.columns.specs.declared.Lanes.{Lanes}
 
 -- the lanes, their flags and the arcs are those of a hall and a choice
 pub record OpenedHall (h : Hall) (c : List ℕ) (lanes : Lanes) (chosen : List Bool) (sets : List ℕ) : Type 0 where
-  pub columns : Columns h h.n lanes.count lanes.tails lanes.heads
+  pub columns : RowsOf h h.n lanes
   pub flags : (i : ℕ) → 1 ≤ i → i ≤ lanes.count → flagged chosen i ≡ member i c
   pub arcs : ArcsOf h c (at sets)
 
@@ -45,7 +46,7 @@ step_at h first x = record { number = at first x; back = not (eqb (row h (at fir
 -- by the fewest rows D from each junction to b, the table has for each but b the lowest step to a junction one nearer
 pub record Guided (h : Hall) (c : List ℕ) (b : ℕ) (D : ℕ → ℕ) (lanes : Lanes) (first : List ℕ) : Type 0 where
   pub size : h.n ≤ 64
-  pub columns : Columns h h.n lanes.count lanes.tails lanes.heads
+  pub columns : RowsOf h h.n lanes
   pub ranged : Ranged h
   pub fewest : (x : ℕ) → 1 ≤ x → x ≤ h.n → FewestTo h c x b (some (D x))
   pub lowest : (x : ℕ) → 1 ≤ x → x ≤ h.n → (x ≡ b → ⊥) → LowestStep h c D x (step_at h first x)

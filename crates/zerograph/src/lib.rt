@@ -6,9 +6,8 @@ ghost use Rattle.std.specs.Prelude.{◌≡◌, false, ◌&&◌, ℕ, ◌+◌, �
 ghost use Rattle.laws.specs.Lists.{at};
 ghost use Rattle.hall.specs.Hall.{Hall};
 ghost use Rattle.columns.specs.Columns.{flagged, Neighbourhoods};
-ghost use Rattle.columns.specs.Lanes.{LanesOf};
+ghost use Rattle.columns.specs.Lanes.{RowsOf, LanesOf};
 ghost use Rattle.columns.specs.Low.{Low};
-ghost use Rattle.zerograph.specs.Rows.{RowsOf};
 ghost use Rattle.zerograph.specs.Zero.{RowArcs, ZeroGraph};
 
 use columns::{Costs, Lane, Lanes};

@@ -33,8 +33,9 @@ returns-then-has c = record {
       n.costs.now.rows n.potential.now n.movable.now c.args.chosen.now later so_far.deciding c.zero_graph-graph.result graph
       (at c.reach-set.result.distances) (rw (add-one tail) at d) (no_gap (goal.at.returns-then-has c).After-lane-tail) w.0
       (rw (add-one tail, add-one head) at w.1) c.flip-next.result w.2 in
-      record { deciding = next; around = c.neighbourhoods.ensures h lanes rg next.joining };
-  low = λ j. omega arith;
+      let state = c.of.ensures in
+      record { deciding = rw (state.potential, state.chosen) next; around = rw state.chosen (state.around h lanes rg next.joining) };
+  low = λ j. rw c.of.ensures.potential (omega arith);
 }
 
 pub returns-else-has : goal.returns-else-has

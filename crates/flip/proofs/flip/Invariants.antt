@@ -5,7 +5,7 @@ use lib.ListN.{length}
 use Rattle.laws.specs.Lists.{at}
 use Rattle.hall.specs.Hall.{Hall}
 use Rattle.columns.specs.Columns.{flagged}
-use Rattle.zerograph.specs.Rows.{RowsOf}
+use Rattle.columns.specs.Lanes.{RowsOf}
 use Rattle.zerograph.specs.Zero.{ZeroGraph}
 use Rattle.flip.proofs.Flips.{Walking}
 use Rattle.flip.proofs.flip.Given as goal

@@ -1,12 +1,9 @@
 -- `neighbourhood::tight_neighbourhood` meets its contract: each return says what the neighbourhood promises. Assumes nothing.
 use mathlib.Core.Path.{◌≡◌, sym, ap, ◌∙◌}
 use mathlib.Core.Option.{none}
-use Prim.Native.Nat.{◌≤◌}
+use Prim.Native.Nat.{◌≤◌, ◌<◌}
 use native.Mathlib.Omega.{arith}
-use lib.Dec.{eqb, ltb}
-use borrow.Author.Tests.{eqb-false, ltb-false}
 use Rattle.std.proofs.Common.{rules, Err}
-use Rattle.laws.proofs.Booleans.{or_false_l, or_false_r}
 use Rattle.hall.specs.Hall.{Hall, missed}
 use Rattle.hall.specs.File.{hall_in}
 use Rattle.columns.specs.Lanes.{LanesOf}
@@ -17,7 +14,7 @@ use Rattle.neighbourhood.proofs.Tight.{found_outside, found_missed, found_around
 use Rattle.opening.proofs.Opening.{list_chosen}
 use Rattle.opening.proofs.Opening as opening
 use Rattle.neighbourhood.proofs.tight_neighbourhood.Goals as goal
-use Rattle.neighbourhood.proofs.tight_neighbourhood.Goals.{In_ok-opened, Else-outside, After-missed_shore}
+use Rattle.neighbourhood.proofs.tight_neighbourhood.Goals.{In_ok-opened, Joined-then-v-eq0, Else-lanes-v, After-missed_shore, then-v-eq0-via-then-v-eq0, then-v-eq0-via-else-v-eq0+then-lanes-v}
 
 -- where the hall is opened
 module _ (c : In_ok-opened) where
@@ -27,13 +24,20 @@ module _ (c : In_ok-opened) where
   columns : LanesOf hall c.in_ok-opened.opened.hall.lanes
   columns = opening.columns c.args.file.now c.args.choice.now c.in_ok-opened.opened c.in_ok-opened.ensures
 
--- where the junction is one of the hall's
-module _ (c : Else-outside) where
+-- where the junction is none of the hall's
+over : (c : Joined-then-v-eq0) → 1 ≤ c.args.junction → c.in_ok-opened.opened.hall.lanes.n < c.args.junction
+over c low = elim c.then-v-eq0.branch [
+  | then-v-eq0-via-then-v-eq0 w ↦ omega (arith, w.if-v-eq0.true)
+  | then-v-eq0-via-else-v-eq0+then-lanes-v w ↦ w.if-lanes-v.true
+]
+
+-- where it is one of them
+module _ (c : Else-lanes-v) where
   least : 1 ≤ c.args.junction
-  least = omega (arith, eqb-false c.args.junction 0 (or_false_l (eqb c.args.junction 0) (ltb c.in_ok-opened.opened.hall.lanes.n c.args.junction) c.if-outside.false))
+  least = omega (arith, c.if-v-eq0.false)
 
   most : c.args.junction ≤ c.in_ok-opened.opened.hall.lanes.n
-  most = ltb-false c.in_ok-opened.opened.hall.lanes.n c.args.junction (or_false_r (eqb c.args.junction 0) (ltb c.in_ok-opened.opened.hall.lanes.n c.args.junction) c.if-outside.false)
+  most = omega (arith, c.if-lanes-v.false)
 
 -- the shore is the one that is missed
 shore_is : (c : After-missed_shore) → shore_of c.missed_shore.result ≡ missed (hall_in c.args.file.now) c.args.choice.now
@@ -47,12 +51,12 @@ returns-in_err-opened c =
     let passed : c.from_residual.result ≡ Err c.in_err-opened.field-0.0 = search (rules, c.from_residual.ensures) in
     rw passed (c.in_err-opened.ensures.refusal, tt)
 
-pub returns-then-outside : goal.returns-then-outside
+pub returns-then-v-eq0 : goal.returns-then-v-eq0
 unfolding TightSays answered
-returns-then-outside c =
-    let at = goal.at.returns-then-outside c in (
+returns-then-v-eq0 c =
+    let at = goal.at.returns-then-v-eq0 c in (
       c.in_ok-opened.ensures.refusal,
-      found_outside c.args.file.now c.args.choice.now c.args.junction c.in_ok-opened.opened.hall.lanes.n (sym (columns at.In_ok-opened).junctions) c.if-outside.true,
+      found_outside c.args.file.now c.args.choice.now c.args.junction c.in_ok-opened.opened.hall.lanes.n (sym (columns at.In_ok-opened).junctions) (over c),
     )
 
 pub missed_shore-requires : goal.missed_shore-requires
@@ -63,12 +67,12 @@ unfolding TightSays answered
 returns-in-Some c =
     let at = goal.at.returns-in-Some c in (
       c.in_ok-opened.ensures.refusal,
-      found_missed c.args.file.now c.args.choice.now c.args.junction c.in_ok-opened.opened.hall.lanes.n (sym (columns at.In_ok-opened).junctions) c.if-outside.false
-          c.in-Some.shore (ap shore_of (sym c.in-Some.is) ∙ shore_is at.After-missed_shore),
+      found_missed c.args.file.now c.args.choice.now c.args.junction c.in_ok-opened.opened.hall.lanes.n (sym (columns at.In_ok-opened).junctions) (least at.Else-lanes-v)
+          (most at.Else-lanes-v) c.in-Some.shore (ap shore_of (sym c.in-Some.is) ∙ shore_is at.After-missed_shore),
     )
 
 pub neighbourhood_of-set-requires : goal.neighbourhood_of-set-requires
-neighbourhood_of-set-requires c = let at = goal.at.neighbourhood_of-set-requires c in (least at.Else-outside, most at.Else-outside)
+neighbourhood_of-set-requires c = let at = goal.at.neighbourhood_of-set-requires c in (least at.Else-lanes-v, most at.Else-lanes-v)
 
 pub returns : goal.returns
 unfolding TightSays answered
@@ -80,7 +84,7 @@ returns c =
     let ranged = opening.ranged _ _ _ got in
     let met : none ≡ missed (hall at.In_ok-opened) c.args.choice.now = ap shore_of (sym c.in_default.is) ∙ shore_is at.After-missed_shore in (
       got.refusal,
-      found_around c.args.file.now c.args.choice.now c.args.junction o.hall.lanes.n (sym lanes_of.junctions) c.if-outside.false met c.neighbourhood_of-set.result
+      found_around c.args.file.now c.args.choice.now c.args.junction o.hall.lanes.n (sym lanes_of.junctions) (least at.Else-lanes-v) (most at.Else-lanes-v) met c.neighbourhood_of-set.result
           (around_found (hall at.In_ok-opened) ranged c.args.choice.now (list_chosen c.args.file.now c.args.choice.now (opening.passed _ _ _ got)) met o.chosen
           (λ i l u. opening.flags _ _ _ got i l (omega (arith, lanes_of.rows))) c.args.junction c.neighbourhood_of-set.result
           (c.neighbourhood_of-set.ensures (hall at.In_ok-opened) lanes_of ranged)),

@@ -3,7 +3,7 @@ use Prim.Native.Nat.{ℕ, ◌≤◌}
 use Rattle.laws.specs.Lists.{at}
 use Rattle.hall.specs.Hall.{Hall}
 use Rattle.columns.specs.Columns.{flagged}
-use Rattle.zerograph.specs.Rows.{RowsOf}
+use Rattle.columns.specs.Lanes.{RowsOf}
 use Rattle.raise.specs.Rooms.{Most, RowsAllow}
 use Rattle.raise.proofs.row_room.Given as goal
 

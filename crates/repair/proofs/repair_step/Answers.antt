@@ -46,8 +46,9 @@ returns-then-has c = λ h lanes rg free start near gap.
     (at c.reach-set.result.distances) i false c.flip-next.result (omega (arith, lanes.junctions)) graph
     (search-distances c.zero_graph-graph.result lane.head c.reach-set.result (omega arith) c.reach-set.ensures) (omega arith)
     (omega (arith, rg.to_high i (omega arith) u)) start.joining start.parted (omega arith) turns walked in
-    stepped_flip h move cost n.potential.now c.args.chosen.now rg free start i (omega arith) u gap c.flip-next.result c.neighbourhoods.result flipped.1 flipped.0
-    (c.neighbourhoods.ensures h lanes rg flipped.0.joining)
+    let next = c.of.ensures in
+    stepped_flip h move cost n.potential.now c.args.chosen.now rg free start i (omega arith) u gap c.of.result next.potential (rw next.chosen flipped.1)
+    (rw next.chosen flipped.0) (rw next.chosen (next.around h lanes rg flipped.0.joining))
 
 pub returns-else-has : goal.returns-else-has
 returns-else-has c = λ h lanes rg free start near gap.

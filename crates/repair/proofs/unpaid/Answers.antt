@@ -3,14 +3,15 @@ use Rattle.std.proofs.Common.{◌≡◌, ◌∙◌, false, ◌&&◌, suc, ℕ, �
 use borrow.Author.Count.{below_more}
 use Rattle.laws.specs.Lists.{at}
 use Rattle.hall.specs.Hall.{Hall}
-use Rattle.columns.specs.Columns.{flagged, Columns}
+use Rattle.columns.specs.Columns.{flagged}
+use Rattle.columns.specs.Lanes.{RowsOf}
 use Rattle.repair.specs.Repairs.{unpaid}
 use Rattle.repair.proofs.Repairing.{unpaid_here}
 use Rattle.repair.proofs.unpaid.Goals as goal
 use Rattle.repair.proofs.unpaid.Goals.{After-gap}
 
 -- what a turn asks
-asked : (c : After-gap) (h : Hall) (n : ℕ) → let l = c.args.network.now.lanes.now in Columns h n l.count l.tails l.heads →
+asked : (c : After-gap) (h : Hall) (n : ℕ) → RowsOf h n c.args.network.now.lanes.now →
     unpaid h (at c.args.network.now.costs.now.rows) (at c.args.network.now.potential.now) (flagged c.args.chosen.now) (suc c.loop-k.k)
     ≡ (get_or c.args.chosen.now c.loop-k.k false && nat_lt 0 c.gap.result)
 asked c h n cols = let net = c.args.network.now in let l = net.lanes.now in let lane = c.lane-lane in

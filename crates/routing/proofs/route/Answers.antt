@@ -11,10 +11,10 @@ use Rattle.choice.specs.Short.{shore_of}
 use Rattle.choice.proofs.Short.{arcs-inside, arcs-missed}
 use Rattle.shortest.specs.Steps.{OpenedHall}
 use Rattle.shortest.proofs.Searching.{opened-hall}
-use Rattle.routing.proofs.Routing.{none_joins, inside_ends, route_short, route_refused, route_outside, route_missed, route_found}
+use Rattle.routing.proofs.Routing.{none_joins, Inside, route_short, route_refused, route_outside, route_missed, route_found}
 use Rattle.opening.proofs.Opening as opening
 use Rattle.routing.proofs.route.Goals as goal
-use Rattle.routing.proofs.route.Goals.{In_ok-opened, After-shortfall-shore}
+use Rattle.routing.proofs.route.Goals.{In_ok-opened, After-shortfall-shore, Joined-then-from-eq0, Else-lanes-to, then-from-eq0-via-then-from-eq0, then-from-eq0-via-else-from-eq0+then-lanes-from, then-from-eq0-via-else-from-eq0+else-lanes-from+then-to-eq0, then-from-eq0-via-else-from-eq0+else-lanes-from+else-to-eq0+then-lanes-to}
 
 -- where the hall is opened
 lanes_of : (c : In_ok-opened) → LanesOf (hall_in c.args.file.now) c.in_ok-opened.opened.hall.lanes
@@ -53,23 +53,36 @@ opened c =
     opened-hall (hall_in c.args.file.now) c.args.choice.now o.hall.lanes o.chosen c.of_rows-arcs.result lanes_is (opening.ranged _ _ _ got) (opening.flags _ _ _ got)
     (c.of_rows-arcs.ensures (hall_in c.args.file.now) lanes_is)
 
-pub returns-then-not-inside : goal.returns-then-not-inside
-returns-then-not-inside c =
-    let lanes_is = lanes_of (goal.at.returns-then-not-inside c).In_ok-opened in
-    route_outside c.args.file.now c.args.choice.now c.args.from c.args.to c.args.rows.now c.if-rows-lt63.false (opening.unrefused _ _ _ c.in_ok-opened.ensures) _ lanes_is.junctions c.if-not-inside.true
+-- where an end is none of the hall's junctions
+outside : (c : Joined-then-from-eq0) → Inside c.in_ok-opened.opened.hall.lanes.n c.args.from c.args.to → ⊥
+outside c ends = elim c.then-from-eq0.branch [
+  | then-from-eq0-via-then-from-eq0 w ↦ omega (arith, w.if-from-eq0.true, ends.0)
+  | then-from-eq0-via-else-from-eq0+then-lanes-from w ↦ omega (arith, w.if-lanes-from.true, ends.1)
+  | then-from-eq0-via-else-from-eq0+else-lanes-from+then-to-eq0 w ↦ omega (arith, w.if-to-eq0.true, ends.2)
+  | then-from-eq0-via-else-from-eq0+else-lanes-from+else-to-eq0+then-lanes-to w ↦ omega (arith, w.if-lanes-to.true, ends.3)
+]
+
+-- where both are
+inside : (c : Else-lanes-to) → Inside c.in_ok-opened.opened.hall.lanes.n c.args.from c.args.to
+inside c = (omega (arith, c.if-from-eq0.false), c.if-lanes-from.false, omega (arith, c.if-to-eq0.false), c.if-lanes-to.false)
+
+pub returns-then-from-eq0 : goal.returns-then-from-eq0
+returns-then-from-eq0 c =
+    let lanes_is = lanes_of (goal.at.returns-then-from-eq0 c).In_ok-opened in
+    route_outside c.args.file.now c.args.choice.now c.args.from c.args.to c.args.rows.now c.if-rows-lt63.false (opening.unrefused _ _ _ c.in_ok-opened.ensures) _ lanes_is.junctions (outside c)
 
 pub returns-in-Some : goal.returns-in-Some
 returns-in-Some c =
     let at = goal.at.returns-in-Some c in
     let lanes_is = lanes_of at.In_ok-opened in
-    route_missed c.args.file.now c.args.choice.now c.args.from c.args.to c.args.rows.now c.if-rows-lt63.false (opening.unrefused _ _ _ c.in_ok-opened.ensures) _ lanes_is.junctions c.if-not-inside.false
+    route_missed c.args.file.now c.args.choice.now c.args.from c.args.to c.args.rows.now c.if-rows-lt63.false (opening.unrefused _ _ _ c.in_ok-opened.ensures) _ lanes_is.junctions (inside at.Else-lanes-to)
     c.in-Some.shore (ap shore_of (sym c.in-Some.is) ∙ shore_is at.After-shortfall-shore)
 
 pub route-filled-requires : goal.route-filled-requires
 route-filled-requires c =
     let at = goal.at.route-filled-requires c in
     let o = c.in_ok-opened.opened in
-    let ends = inside_ends o.hall.lanes.n c.args.from c.args.to c.if-not-inside.false in
+    let ends = inside at.Else-lanes-to in
     let same = (lanes_of at.In_ok-opened).junctions in (
       ends.0,
       ends.2,
@@ -88,10 +101,10 @@ pub returns : goal.returns
 returns c =
     let at = goal.at.returns c in
     let o = c.in_ok-opened.opened in
-    let ends = inside_ends o.hall.lanes.n c.args.from c.args.to c.if-not-inside.false in
+    let ends = inside at.Else-lanes-to in
     let same = (lanes_of at.In_ok-opened).junctions in
     let met : none ≡ missed (hall_in c.args.file.now) c.args.choice.now = ap shore_of (sym c.in_default.is) ∙ shore_is at.After-shortfall-shore in
-    route_found c.args.file.now c.args.choice.now c.args.from c.args.to c.args.rows.now c.if-rows-lt63.false (opening.unrefused _ _ _ c.in_ok-opened.ensures) _ same c.if-not-inside.false
+    route_found c.args.file.now c.args.choice.now c.args.from c.args.to c.args.rows.now c.if-rows-lt63.false (opening.unrefused _ _ _ c.in_ok-opened.ensures) _ same ends
     met c.route-filled.result _
     (c.route-filled.ensures (hall_in c.args.file.now) c.args.choice.now (opened at.After-shortfall-shore) (omega (arith, ends.1, same)) (omega (arith, ends.3, same))
     (none_joins c.args.file.now c.args.choice.now met))
