@@ -4,21 +4,21 @@ use mathlib.Core.Bool.{false}
 use mathlib.Core.List.{List, map}
 use Prim.Native.Nat.{ℕ, zero, suc, ◌≤◌, ◌<◌}
 use native.Mathlib.Omega.{arith}
-use lib.Dec.{eqb, ltb}
+use lib.Dec.{eqb}
 use lib.IntN.{ℤ}
 use lib.ListN.{length, take, length-map}
-use borrow.Author.Tests.{lt-ltb, le-ltb}
 use Rattle.std.specs.Prelude.{Result, Ok, Err}
 use Rattle.laws.specs.Lists.{in_front}
-use Rattle.laws.proofs.Booleans.{clash, cond_true, cond_false}
+use Rattle.laws.proofs.Booleans.{clash}
 use Rattle.laws.proofs.Lists.{front_fits, front_are}
-use Rattle.hall.specs.File.{Refusal, hall_in, hall_refusal, refusal}
+use Rattle.hall.specs.File.{hall_in, hall_refusal, refusal}
 use Rattle.hall.specs.Plan as plan
 use Rattle.refusals.specs.declared.Kind.{Kind}
 use Rattle.refusals.specs.declared.Kind.TheVariants.{ListShort}
 use Rattle.refusals.specs.Kinds.{refusal_of, answered, figure}
 use Rattle.refusals.proofs.Numbers.{kind_number}
 use Rattle.opening.specs.Choice.{room_for}
+use Rattle.opening.proofs.Room.{room_short, room_enough}
 use Rattle.cutlist.specs.declared.Cut.{Cut}
 use Rattle.cutlist.specs.Cuts.{lent, lent_cuts}
 use Rattle.cutlist.proofs.Lent.{lent_columns}
@@ -46,9 +46,9 @@ module _ (bs : List ℕ) (b : List Cut) (d : List ℤ) where
 
   -- a list of cuts that is too short
   pub says_short : length b < 125 → Says (Err ListShort) b d
-  unfolding CutsSays answered figure room_for refusal_of refusal
+  unfolding CutsSays answered figure refusal_of refusal
   says_short l = (
-    sym (cond_true (ltb (length b) 125) (refusal 1 0) (room_for 64 (length d) (hall_refusal bs)) (lt-ltb (length b) 125 l)),
+    sym (room_short 125 (length b) (room_for 64 (length d) (hall_refusal bs)) l),
     short_as 1 refl,
   )
 
@@ -58,14 +58,11 @@ module _ (bs : List ℕ) (b : List Cut) (d : List ℤ) where
     abbrev SaysPairs : Result PlannedCuts Kind → Type 0
     SaysPairs r = PairSays bs (answered r) (figure (λ (c : PlannedCuts). c.cuts) r) (figure (λ (c : PlannedCuts). c.levels) r) p x q y d w
 
-    enough : (k : ℕ) (f : Refusal) → 125 ≤ k → room_for 125 k f ≡ f
-    unfolding room_for
-    enough k f l = cond_false (ltb k 125) (refusal 1 0) f (le-ltb k 125 l)
-
     same_refusal : room_for 125 (length p) (room_for 125 (length q) (room_for 64 (length d) (hall_refusal bs))) ≡ room_for 125 (length b) (room_for 64 (length d) (hall_refusal bs))
     same_refusal =
         let rest = room_for 64 (length d) (hall_refusal bs) in
-        enough (length p) (room_for 125 (length q) rest) (omega (arith, p_size)) ∙ enough (length q) rest (omega (arith, q_size)) ∙ sym (enough (length b) rest wide)
+        room_enough 125 (length p) (room_for 125 (length q) rest) (omega (arith, p_size)) ∙ room_enough 125 (length q) rest (omega (arith, q_size))
+        ∙ sym (room_enough 125 (length b) rest wide)
 
     refused_as : (n : ℕ) → eqb n 0 ≡ false → PairAs n (hall_in bs) 0 0 p x q y d w → CutsAs lent n (hall_in bs) 0 0 b b d w
     unfolding CutsAs PairAs

@@ -7,7 +7,7 @@ use native.Mathlib.Omega.{arith}
 use lib.Dec.{eqb, ltb}
 use lib.IntN.{ℤ}
 use lib.ListN.{length, replicate, get_or-replicate}
-use borrow.Author.Tests.{ltb-false, le-ltb}
+use borrow.Author.Tests.{ltb-false}
 use Rattle.std.specs.Prelude.{Result, Ok, Err}
 use Rattle.laws.specs.Lists.{at}
 use Rattle.laws.proofs.Booleans.{by_bool, clash}
@@ -18,6 +18,7 @@ use Rattle.refusals.specs.declared.Kind.TheVariants.{ListShort}
 use Rattle.refusals.specs.Kinds.{refusal_of, answered, figure}
 use Rattle.refusals.proofs.Numbers.{kind_number}
 use Rattle.opening.specs.Choice.{room_for}
+use Rattle.opening.proofs.Room.{room_enough}
 use Rattle.dicuts.specs.Shores.{once}
 use Rattle.order.proofs.Promise.{plannable_first}
 use Rattle.certificates.specs.Cuts.{cuts}
@@ -110,8 +111,9 @@ module _ (bs a b : List ℕ) (d : List ℤ) where
 
   module _ (room : Room) where
     past_room : room_for 125 (length a) (room_for 125 (length b) (room_for 64 (length d) (hall_refusal bs))) ≡ hall_refusal bs
-    unfolding room_for
-    past_room = rw (le-ltb (length a) 125 room.0, le-ltb (length b) 125 room.1, le-ltb (length d) 64 room.2) refl
+    past_room =
+        let levels = room_for 64 (length d) (hall_refusal bs) in
+        room_enough 125 (length a) (room_for 125 (length b) levels) room.0 ∙ room_enough 125 (length b) levels room.1 ∙ room_enough 64 (length d) (hall_refusal bs) room.2
 
     pub says_refused : (k : Kind) → refusal_of k ≡ hall_refusal bs → Says (Err k) a b d
     says_refused k e = says_err k (e ∙ sym past_room)

@@ -3,13 +3,12 @@ use mathlib.Core.Path.{◌≡◌, refl, sym, ◌∙◌}
 use mathlib.Core.Bool.{Bool, false, cond}
 use mathlib.Core.List.{List, ◌++◌}
 use Prim.Native.Nat.{ℕ, zero, suc, ◌<◌, ◌≤◌}
-use lib.Dec.{eqb, ltb}
+use lib.Dec.{eqb}
 use lib.ListN.{length, get_or, drop}
-use borrow.Author.Tests.{lt-ltb, le-ltb}
 use Rattle.std.specs.Prelude.{Result, Ok, Err}
 use Rattle.laws.specs.Lists.{in_front}
 use Rattle.laws.specs.Finite.{sum_below}
-use Rattle.laws.proofs.Booleans.{clash, cond_true, cond_false}
+use Rattle.laws.proofs.Booleans.{clash}
 use Rattle.hall.specs.Hall.{Hall}
 use Rattle.hall.specs.File.{hall_in, hall_refusal, refusal}
 use Rattle.hall.specs.Plan.{First}
@@ -18,6 +17,7 @@ use Rattle.refusals.specs.declared.Kind.TheVariants.{ListShort}
 use Rattle.refusals.specs.Kinds.{refusal_of, answered, figure}
 use Rattle.refusals.proofs.Numbers.{kind_number}
 use Rattle.opening.specs.Choice.{room_for}
+use Rattle.opening.proofs.Room.{room_short, room_enough}
 use Rattle.dicuts.specs.Listed.{listed}
 use Rattle.columns.specs.Columns.{flagged}
 use Rattle.hallfile.specs.declared.record.HallRecord.{HallRecord}
@@ -49,13 +49,12 @@ module _ (bs a : List ℕ) where
   says_err k e = (e, refused_as (refusal_of k).number (kind_number k).0)
 
   pub says_short : length a < 256 → Says (Err ListShort) a
-  unfolding room_for refusal_of
-  says_short short = says_err ListShort (sym (cond_true (ltb (length a) 256) (refusal 1 0) (hall_refusal bs) (lt-ltb (length a) 256 short)))
+  unfolding refusal_of
+  says_short short = says_err ListShort (sym (room_short 256 (length a) (hall_refusal bs) short))
 
   module _ (room : 256 ≤ length a) where
     past_room : room_for 256 (length a) (hall_refusal bs) ≡ hall_refusal bs
-    unfolding room_for
-    past_room = cond_false (ltb (length a) 256) (refusal 1 0) (hall_refusal bs) (le-ltb (length a) 256 room)
+    past_room = room_enough 256 (length a) (hall_refusal bs) room
 
     pub says_refused : (k : Kind) → refusal_of k ≡ hall_refusal bs → Says (Err k) a
     says_refused k e = says_err k (e ∙ sym past_room)

@@ -23,6 +23,7 @@ use Rattle.cutlist.specs.Cuts.{lent, cuts_of}
 use Rattle.cutlist.proofs.Lent.{cuts-lent}
 use Rattle.levels.proofs.Levelling.{levels_size}
 use Rattle.opening.specs.Choice.{room_for}
+use Rattle.opening.proofs.Room.{room_enough}
 use Rattle.oneplan.specs.Plan.{RowsSays, CutsSays}
 use Rattle.oneplan.proofs.Promise.{ChoiceListed, choice_listed, CutsListed, cuts_listed}
 use Rattle.planrows.specs.declared.PlannedRows.{PlannedRows}
@@ -39,8 +40,8 @@ module _ (bs : List ℕ) where
     RowsReply r = RowsSays bs (answered r) (figure (λ (p : PlannedRows). p.chosen) r) (figure (λ (p : PlannedRows). p.total) r) a x
 
     pub rows_refused : (k : Kind) → length a ≡ 256 → RowsReply (Err k) → refusal_of k ≡ hall_refusal bs
-    unfolding RowsSays answered room_for
-    rows_refused k size says = says.0 ∙ rw size refl
+    unfolding RowsSays answered
+    rows_refused k size says = says.0 ∙ room_enough 256 (length a) (hall_refusal bs) (omega (arith, size))
 
     pub rows_fine : {p : PlannedRows} → RowsReply (Ok p) → ChoiceListed (hall_in bs) p.chosen p.total x
     unfolding RowsSays answered figure refusal
@@ -52,8 +53,9 @@ module _ (bs : List ℕ) where
     CutsReply r = CutsSays lent bs (answered r) (figure (λ (p : PlannedCuts). p.cuts) r) (figure (λ (p : PlannedCuts). p.levels) r) b y d w
 
     pub cuts_refused : (k : Kind) → length b ≡ 125 → length d ≡ 64 → CutsReply (Err k) → refusal_of k ≡ hall_refusal bs
-    unfolding CutsSays answered room_for
-    cuts_refused k size room says = says.0 ∙ rw (size, room) refl
+    unfolding CutsSays answered
+    cuts_refused k size room says =
+        says.0 ∙ room_enough 125 (length b) (room_for 64 (length d) (hall_refusal bs)) (omega (arith, size)) ∙ room_enough 64 (length d) (hall_refusal bs) (omega (arith, room))
 
     pub cuts_fine : (c : List ℕ) {p : PlannedCuts} → First (hall_in bs) c → CutsReply (Ok p) → CutsListed lent (hall_in bs) c p.cuts p.levels y d w
     unfolding CutsSays answered figure refusal

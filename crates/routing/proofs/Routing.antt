@@ -4,10 +4,10 @@ use mathlib.Core.Bool.{Bool, true, false, ◌&&◌}
 use mathlib.Core.List.{List}
 use mathlib.Core.Option.{none, some}
 use Prim.Native.Nat.{ℕ, ◌≤◌, ◌<◌}
-use lib.Dec.{leb, ltb, eqb}
+use lib.Dec.{leb, eqb}
 use lib.IntN.{ℤ}
 use lib.ListN.{length}
-use borrow.Author.Tests.{lt-ltb, le-ltb, le-leb, leb-true}
+use borrow.Author.Tests.{le-leb, leb-true}
 use Rattle.std.specs.Prelude.{Ok, Err}
 use Rattle.laws.specs.Lists.{in_front}
 use Rattle.laws.proofs.Booleans.{not_true_false, and_l, and_r, cond_true, cond_false}
@@ -19,7 +19,8 @@ use Rattle.refusals.specs.declared.Kind.{Kind}
 use Rattle.refusals.specs.declared.Kind.TheVariants.{ListShort, RouteEnd}
 use Rattle.refusals.specs.Kinds.{refusal_of, answered}
 use Rattle.refusals.proofs.Numbers.{kind_refused}
-use Rattle.opening.specs.Choice.{choice_refusal, room_for}
+use Rattle.opening.specs.Choice.{choice_refusal}
+use Rattle.opening.proofs.Room.{room_short, room_enough}
 use Rattle.routing.specs.declared.Way.TheVariants.{Misses, Route}
 use Rattle.routing.specs.Route.{end_refusal, route_refusal, WayFor, RouteSays}
 
@@ -59,13 +60,13 @@ module _ (bs c : List ℕ) (a b : ℕ) (old : List ℤ) where
   says_err k e = (e, refl)
 
   pub route_short : length old < 63 → RouteSays bs c a b (Err ListShort) old old
-  unfolding route_refusal room_for refusal_of
-  route_short short = says_err ListShort (sym (cond_true (ltb (length old) 63) (refusal 1 0) (or_else (choice_refusal bs c) (end_refusal n a b)) (lt-ltb (length old) 63 short)))
+  unfolding route_refusal refusal_of
+  route_short short = says_err ListShort (sym (room_short 63 (length old) (or_else (choice_refusal bs c) (end_refusal n a b)) short))
 
   module _ (room : 63 ≤ length old) where
     past_room : route_refusal bs c a b (length old) ≡ or_else (choice_refusal bs c) (end_refusal n a b)
-    unfolding route_refusal room_for
-    past_room = cond_false (ltb (length old) 63) (refusal 1 0) (or_else (choice_refusal bs c) (end_refusal n a b)) (le-ltb (length old) 63 room)
+    unfolding route_refusal
+    past_room = room_enough 63 (length old) (or_else (choice_refusal bs c) (end_refusal n a b)) room
 
     pub route_refused : (k : Kind) → refusal_of k ≡ choice_refusal bs c → RouteSays bs c a b (Err k) old old
     unfolding or_else
