@@ -17,6 +17,16 @@ pub struct Tried {
     pub reply: Result<&'static str, Kind>,
 }
 
+impl Tried {
+    // A word, and of a reply whether it was refused, and how.
+    fn of<T: Copy>(told: &'static str, reply: Result<T, Kind>) -> Tried {
+        Tried {
+            told,
+            reply: reply.map(|_| "PLANNED"),
+        }
+    }
+}
+
 // The cuts' call with so many places lent for cuts as structs, and so many for levels. Each cut is made of a shore and a weight before it,
 // and they of the cut after it.
 fn plan_cuts(
@@ -44,10 +54,7 @@ fn short<T: Copy>(lists: &Lists, reply: Result<T, Kind>) -> Tried {
     } else {
         "TOUCHED"
     };
-    Tried {
-        told,
-        reply: reply.map(|_| "PLANNED"),
-    }
+    Tried::of(told, reply)
 }
 
 // Whether the cuts' call says and writes the same with so many cuts as structs and in two number lists.
@@ -67,10 +74,7 @@ pub fn both(file: &[u8], cuts: usize) -> Tried
     } else {
         "DIFFERENT"
     };
-    Tried {
-        told,
-        reply: reply.map(|_| "PLANNED"),
-    }
+    Tried::of(told, reply)
 }
 
 // The rows' call with so many places.
