@@ -25,6 +25,7 @@ extern "C" {
 enum {
     HIMALOWEN_TOLD_PLACES = 4,
     HIMALOWEN_ROUTED_PLACES = 5,
+    HIMALOWEN_SCREENED_PLACES = 4,
     HIMALOWEN_PLANNED_PLACES = 4,
     HIMALOWEN_ROW_PLACES = 256,
     HIMALOWEN_CUT_PLACES = 125,
@@ -37,6 +38,9 @@ enum { HIMALOWEN_NUMBER = 0, HIMALOWEN_ROW = 1 };
 
 /* Places of the reply of himalowen_check, himalowen_tight and himalowen_route, and of the last alone the filled length. */
 enum { HIMALOWEN_OUTCOME = 2, HIMALOWEN_SET = 3, HIMALOWEN_FILLED = 4 };
+
+/* Places of the reply of himalowen_over_figure: 1 where the choice costs more, else 0, and how many of its rows were read. */
+enum { HIMALOWEN_OVER = 2, HIMALOWEN_READ = 3 };
 
 /* Places of the reply of himalowen_plan_rows: how many rows are filled in, and their total. */
 enum { HIMALOWEN_CHOSEN = 2, HIMALOWEN_TOTAL = 3 };
@@ -67,6 +71,13 @@ uint32_t himalowen_route(const uint8_t *file, size_t file_length,
                          uint32_t from, uint32_t to,
                          int32_t *rows, size_t rows_length,
                          uint64_t reply[HIMALOWEN_ROUTED_PLACES]);
+
+/* Whether the chosen rows, ascending, cost more than a figure, whether they join or not. Rows are read in order until the sum
+ * of their prices has passed the figure: the reply tells how many were read, the fewest that pass it, else all. */
+uint32_t himalowen_over_figure(const uint8_t *file, size_t file_length,
+                               const uint32_t *choice, size_t choice_length,
+                               uint32_t figure,
+                               uint64_t reply[HIMALOWEN_SCREENED_PLACES]);
 
 /* A plan is asked for in two calls, in any order, and either may be left out. For the same file both speak of one plan: the
  * weights of himalowen_plan_cuts add up to the total of himalowen_plan_rows. Refusal 1 looks in each call only at the lists

@@ -1,5 +1,5 @@
 -- What a caller in another language reads: each reply as numbers, in the order of its fields. Assumes nothing: these are definitions.
-use Rattle.std.specs.Prelude.{◌≡◌, List, [], ◌∷◌, ℕ, ℤ, Result}
+use Rattle.std.specs.Prelude.{◌≡◌, cond, List, [], ◌∷◌, ℕ, ℤ, Result}
 use Rattle.hall.specs.File.{Refusal}
 use Rattle.refusals.specs.declared.Kind.{Kind}
 use Rattle.refusals.specs.Kinds.{answered, figure}
@@ -9,6 +9,8 @@ use Rattle.answers.specs.Answers.{outcome_of, set_of}
 use Rattle.checking.specs.Check.{CheckSays}
 use Rattle.neighbourhood.specs.Tight.{TightSays}
 use Rattle.routing.specs.Route.{way_outcome, way_set, way_filled, RouteSays}
+use Rattle.screening.specs.declared.Screened.{Screened}
+use Rattle.screening.specs.Figure.{FigureSays}
 use Rattle.oneplan.specs.Plan.{RowsSays, PairSays}
 
 -- number, row, outcome, set
@@ -19,6 +21,11 @@ told_places t = (answered t).number ∷ (answered t).place ∷ figure outcome_of
 unfoldable pub routed_places : Result Way Kind → List ℕ
 routed_places r =
     (answered r).number ∷ (answered r).place ∷ figure way_outcome r ∷ figure way_set r ∷ figure way_filled r ∷ []
+
+-- number, row, over (1 or 0), read
+unfoldable pub screened_places : Result Screened Kind → List ℕ
+screened_places r =
+    (answered r).number ∷ (answered r).place ∷ figure (λ (s : Screened). cond s.over 1 0) r ∷ figure (λ (s : Screened). s.read) r ∷ []
 
 -- the reply's places are those of an answer of the check; its number is returned
 unfoldable pub CheckLeaves : (bs c : List ℕ) → (returned : ℕ) → (reply : List ℕ) → Type 0
@@ -32,6 +39,10 @@ TightLeaves bs c j r x = (t : Result Finding Kind) × TightSays bs c j t × (x �
 unfoldable pub RouteLeaves : (bs c : List ℕ) → (a b returned : ℕ) → (reply : List ℕ) → (before after : List ℤ) → Type 0
 RouteLeaves bs c a b r x old new =
     (t : Result Way Kind) × RouteSays bs c a b t old new × (x ≡ routed_places t) × (r ≡ (answered t).number)
+
+-- the same for the figure
+unfoldable pub FigureLeaves : (bs c : List ℕ) → (limit returned : ℕ) → (reply : List ℕ) → Type 0
+FigureLeaves bs c f r x = (t : Result Screened Kind) × FigureSays bs c f t × (x ≡ screened_places t) × (r ≡ (answered t).number)
 
 -- the same for the rows' call: number, row, chosen and total, with the lent list before and after
 unfoldable pub RowsLeaves : List ℕ → (returned : ℕ) → (reply before after : List ℕ) → Type 0

@@ -5,13 +5,14 @@ ghost use Rattle.std.specs.Prelude.{◌≡◌, [], ◌∷◌, ◌-◌, ◌≤◌
 ghost use Rattle.refusals.specs.Kinds.{refusal_of, answered, figure};
 ghost use Rattle.planrows.specs.declared.PlannedRows.{PlannedRows};
 ghost use Rattle.planpairs.specs.declared.PlannedCuts.{PlannedCuts};
-ghost use Rattle.himalowen.specs.Replies.{CheckLeaves, TightLeaves, RouteLeaves, RowsLeaves, PairLeaves, told_places, routed_places};
+ghost use Rattle.himalowen.specs.Replies.{CheckLeaves, TightLeaves, RouteLeaves, FigureLeaves, RowsLeaves, PairLeaves, told_places, routed_places, screened_places};
 
 use answers::Finding;
 use planpairs::PlannedCuts;
 use planrows::PlannedRows;
 use refusals::Kind;
 use routing::Way;
+use screening::Screened;
 
 // The number of a reply's refusal, 0 for none: C callers read a number.
 #[tactic(auto, unfolding(refusals::specs::Kinds::answered, hall::specs::File::refusal))]
@@ -52,6 +53,16 @@ fn routed_places(routed: Result<Way, Kind>) -> [u64; 5]
 {
     match routed {
         Ok(way) => [0, 0, u64::from(way.outcome()), way.set(), way.filled()],
+        Err(kind) => refused(kind),
+    }
+}
+
+#[tactic(auto, unfolding(crate::specs::Replies::screened_places, refusals::specs::Kinds::answered, refusals::specs::Kinds::figure, hall::specs::File::refusal))]
+fn screened_places(screened: Result<Screened, Kind>) -> [u64; 4]
+    ensures { result ≡ screened_places screened }
+{
+    match screened {
+        Ok(rows) => [0, 0, u64::from(rows.over), rows.read as u64],
         Err(kind) => refused(kind),
     }
 }
@@ -110,6 +121,15 @@ pub fn himalowen_route(
     let routed = routing::route(file, choice, from, to, rows);
     *reply = routed_places(routed);
     number_of(routed)
+}
+
+#[tactic(auto, unfolding(crate::specs::Replies::FigureLeaves))]
+pub fn himalowen_over_figure(file: &[u8], choice: &[u32], figure: u32, reply: &mut [u64; 4]) -> u32
+    ensures { FigureLeaves file.now choice.now figure result reply.new }
+{
+    let screened = screening::over_figure(file, choice, figure);
+    *reply = screened_places(screened);
+    number_of(screened)
 }
 
 #[tactic(auto, unfolding(crate::specs::Replies::RowsLeaves))]

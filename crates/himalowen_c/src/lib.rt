@@ -1,7 +1,7 @@
 // The exports of libhimalowen.a, as include/himalowen.h declares them: each is the call of that name in `himalowen`, with its promise.
 #![tactic(auto)]
 
-ghost use Rattle.himalowen.specs.Replies.{CheckLeaves, TightLeaves, RouteLeaves, RowsLeaves, PairLeaves};
+ghost use Rattle.himalowen.specs.Replies.{CheckLeaves, TightLeaves, RouteLeaves, FigureLeaves, RowsLeaves, PairLeaves};
 
 #[unsafe(no_mangle)]
 pub extern "C" fn himalowen_check(file: &[u8], choice: &[u32], reply: &mut [u64; 4]) -> u32
@@ -34,6 +34,18 @@ pub extern "C" fn himalowen_route(
     ensures { RouteLeaves file.now choice.now from to result reply.new rows.old rows.new }
 {
     himalowen::himalowen_route(file, choice, from, to, rows, reply)
+}
+
+#[unsafe(no_mangle)]
+pub extern "C" fn himalowen_over_figure(
+    file: &[u8],
+    choice: &[u32],
+    figure: u32,
+    reply: &mut [u64; 4],
+) -> u32
+    ensures { FigureLeaves file.now choice.now figure result reply.new }
+{
+    himalowen::himalowen_over_figure(file, choice, figure, reply)
 }
 
 #[unsafe(no_mangle)]

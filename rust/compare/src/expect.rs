@@ -16,7 +16,7 @@ pub fn same<T: PartialEq + std::fmt::Debug>(what: &str, given: T, expected: T) -
     }
 }
 
-/// Check, tight neighbourhoods and routes on a few choices, and on lists that are no choice.
+/// Check, figures, tight neighbourhoods and routes on a few choices, and on lists that are no choice.
 pub fn calls_with_a_choice(planner: &Planner, file: &[u8], seed: u64) -> Outcome {
     let mut random = Random::new(seed);
     let lists = match oracle::hall_in(file) {
@@ -25,6 +25,7 @@ pub fn calls_with_a_choice(planner: &Planner, file: &[u8], seed: u64) -> Outcome
     };
     for list in &lists {
         same("check", (planner.check)(file, list), oracle::check(file, list))?;
+        figures(planner, file, list, &mut random)?;
     }
     for list in lists.iter().skip(1).step_by(2).chain(lists.last()) {
         for junction in [0, 1, random.within(1, 65) as u32, random.within(1, 6) as u32, u32::MAX] {
@@ -32,6 +33,18 @@ pub fn calls_with_a_choice(planner: &Planner, file: &[u8], seed: u64) -> Outcome
         }
     }
     some_routes(planner, file, &lists, &mut random)
+}
+
+/// Figures around what some of the rows cost, around what all do, and the least and the largest.
+fn figures(planner: &Planner, file: &[u8], list: &[u32], random: &mut Random) -> Outcome {
+    let sums = oracle::sums(file, list);
+    let all = sums.last().copied();
+    let some = all.map(|_| random.pick(&sums));
+    let around = |sum: u64| [sum.saturating_sub(1), sum, sum + 1].map(|figure| figure as u32);
+    for figure in all.into_iter().chain(some).flat_map(around).chain([0, u32::MAX]) {
+        same("figure", (planner.over)(file, list, figure), oracle::over_figure(file, list, figure))?;
+    }
+    Ok(())
 }
 
 /// Choices of a hall, the last of which joins and can spare no row, and lists that are no choice.

@@ -1,4 +1,4 @@
-//! The planners that there are, behind the same five calls, and what each call must answer.
+//! The planners that there are, behind the same six calls, and what each call must answer.
 
 mod expect;
 mod routes;
@@ -11,6 +11,9 @@ pub type Told = [u64; 4];
 
 /// Number, row, outcome, set, filled.
 pub type Routed = [u64; 5];
+
+/// Number, row, over (1 or 0), read.
+pub type Screened = [u64; 4];
 
 /// Number, row; then chosen, total for the rows' call, and cuts, levels for the cuts' call.
 pub type Planned = [u64; 4];
@@ -52,6 +55,7 @@ pub struct Planner {
     pub check: fn(&[u8], &[u32]) -> Told,
     pub tight: fn(&[u8], &[u32], u32) -> Told,
     pub route: Route,
+    pub over: fn(&[u8], &[u32], u32) -> Screened,
     pub rows: Plan,
     pub cuts: Plan,
 }
@@ -78,6 +82,10 @@ macro_rules! planner {
                 Ok($of::Way::Misses(shore)) => [0, 0, 2, shore, 0],
                 Ok($of::Way::Route(filled)) => [0, 0, 4, 0, filled as u64],
                 Err(refusal) => [refusal.number.into(), refusal.row.into(), 0, 0, 0],
+            },
+            over: |file, choice, figure| match $of::over_figure(file, choice, figure) {
+                Ok(screened) => [0, 0, screened.over.into(), screened.read as u64],
+                Err(refusal) => refused(refusal),
             },
             rows: |file, lent| match $of::plan_rows_into(file, &mut lent.rows) {
                 Ok(p) => [0, 0, p.chosen as u64, p.total.into()],

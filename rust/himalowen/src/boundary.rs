@@ -32,6 +32,15 @@ mod exported {
             reply: &mut [u64; 5],
         ) -> u32;
 
+        pub fn himalowen_over_figure(
+            file: *const u8,
+            file_length: usize,
+            choice: *const u32,
+            choice_length: usize,
+            figure: u32,
+            reply: &mut [u64; 4],
+        ) -> u32;
+
         pub fn himalowen_plan_rows(
             file: *const u8,
             file_length: usize,
@@ -84,6 +93,14 @@ pub fn route(file: &[u8], choice: &[u32], from: u32, to: u32, rows: &mut [i32]) 
             rows.len(),
             &mut reply,
         );
+    }
+    reply
+}
+
+pub fn over_figure(file: &[u8], choice: &[u32], figure: u32) -> [u64; 4] {
+    let mut reply = [0; 4];
+    unsafe {
+        exported::himalowen_over_figure(file.as_ptr(), file.len(), choice.as_ptr(), choice.len(), figure, &mut reply);
     }
     reply
 }

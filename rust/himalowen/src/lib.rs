@@ -44,6 +44,13 @@ pub enum Way<T> {
     Route(T),
 }
 
+/// Whether a choice costs more than a figure, and how many of its rows were read to tell.
+#[derive(Clone, Copy, Debug, PartialEq, Eq)]
+pub struct Screened {
+    pub over: bool,
+    pub read: usize,
+}
+
 /// How many places of the lent list are filled, and the total of these rows.
 #[derive(Clone, Copy, Debug, PartialEq, Eq)]
 pub struct PlannedRows {
@@ -108,6 +115,14 @@ pub fn route(file: &[u8], choice: &[u32], from: u32, to: u32) -> Result<Way<Vec<
         Way::Misses(shore) => Way::Misses(shore),
         Way::Route(filled) => Way::Route(rows[..filled].to_vec()),
     })
+}
+
+/// Whether the chosen rows, joining or not, cost more than `figure`. Rows are read in order until their prices have passed it:
+/// the fewest that do, else all.
+pub fn over_figure(file: &[u8], choice: &[u32], figure: u32) -> Result<Screened, Refusal> {
+    let [number, row, over, read] = boundary::over_figure(file, choice, figure);
+    accepted(number, row)?;
+    Ok(Screened { over: over == 1, read: read as usize })
 }
 
 /// The first joining choice in the front of the lent list, and its total. Refusal 1 looks at that list alone.

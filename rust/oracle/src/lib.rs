@@ -3,6 +3,7 @@
 //! ones by certificates. Junctions and rows count from 1; junction j counts 2^(j - 1) in a set.
 
 mod certificate;
+mod figure;
 mod first;
 mod hall;
 mod list;
@@ -10,6 +11,7 @@ mod route;
 mod small;
 
 pub use certificate::{faults, Claim};
+pub use figure::{over_figure, sums};
 pub use first::unshown;
 pub use hall::{hall_in, unfixed, Hall};
 pub use list::{judge, printed, words, Listed};
@@ -21,7 +23,8 @@ use std::collections::BTreeMap;
 
 use hall::everything;
 
-/// The reply to a check or to a tight neighbourhood: number, row, outcome (1 joins, 2 misses, 3 a neighbourhood), set.
+/// The reply to a check or to a tight neighbourhood: number, row, outcome (1 joins, 2 misses, 3 a neighbourhood), set. Other
+/// replies of four numbers begin with number and row, too.
 pub type Told = [u64; 4];
 
 pub fn holds(set: u64, junction: u64) -> bool {

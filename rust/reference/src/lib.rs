@@ -1,5 +1,5 @@
 //! Opening lanes at least cost: the method of the proved library in plain Rust, unproved.
-//! It is the baseline for benchmarks and answers the same five calls. Inside, junctions and rows count from 0.
+//! It is the baseline for benchmarks and answers the same six calls. Inside, junctions and rows count from 0.
 
 mod choice;
 mod cuts;
@@ -31,6 +31,13 @@ pub enum Finding {
 pub enum Way {
     Misses(u64),
     Route(usize),
+}
+
+/// Whether a choice costs more than a figure, and how many of its rows were read to tell.
+#[derive(Clone, Copy, Debug, PartialEq, Eq)]
+pub struct Screened {
+    pub over: bool,
+    pub read: usize,
 }
 
 /// How much of the lent list is filled, the total, and the work it took.
@@ -87,6 +94,20 @@ pub fn route_into(file: &[u8], choice: &[u32], from: u32, to: u32, rows: &mut [i
         Some(shore) => Way::Misses(shore),
         None => Way::Route(route::fill(&choice, ends[0] - 1, ends[1] - 1, rows)),
     })
+}
+
+/// Reads the chosen rows until their prices have passed the figure.
+pub fn over_figure(file: &[u8], choice: &[u32], figure: u32) -> Result<Screened, Refusal> {
+    let hall = hall::read(file)?;
+    Choice::read(&hall, choice)?;
+    let mut left = figure;
+    for (k, &row) in choice.iter().enumerate() {
+        match left.checked_sub(hall.rows[row as usize - 1].price) {
+            Some(rest) => left = rest,
+            None => return Ok(Screened { over: true, read: k + 1 }),
+        }
+    }
+    Ok(Screened { over: false, read: choice.len() })
 }
 
 /// Fills the front of the lent list with the first joining choice.

@@ -4,6 +4,7 @@
 //!     oracle check FILE ROWS             JOINS, MISSES with the shore, or REFUSED
 //!     oracle tight FILE ROWS JUNCTION    AROUND with the set, MISSES, or REFUSED
 //!     oracle route FILE ROWS FROM TO     ROUTE with the rows, below 0 if run backward, MISSES, or REFUSED
+//!     oracle figure FILE ROWS FIGURE     OVER or WITHIN, and how many rows are read, or REFUSED
 //!     oracle plan FILE                   the first joining choice: OPEN, its rows, TOTAL; or REFUSED
 //!     oracle list FILE                   a right printed list
 //!     oracle judge FILE LIST             RIGHT, or what is wrong with a printed list
@@ -20,7 +21,8 @@ use std::process::ExitCode;
 
 use oracle::{hall_in, holds, words, Told, SMALL};
 
-const USAGE: &str = "usage: oracle read|check|tight|route|plan|list|judge|lines ..., as src/bin/oracle/main.rs says";
+const USAGE: &str =
+    "usage: oracle read|check|tight|route|figure|plan|list|judge|lines ..., as src/bin/oracle/main.rs says";
 
 /// The answer, or what is wrong.
 fn answer(request: &[&str]) -> Result<String, String> {
@@ -32,6 +34,7 @@ fn answer(request: &[&str]) -> Result<String, String> {
         ["check", name, rows] => told(oracle::check(&file(name)?, &choice(rows)?)),
         ["tight", name, rows, junction] => tight(&file(name)?, &choice(rows)?, number(junction)?),
         ["route", name, rows, from, to] => route(&file(name)?, &choice(rows)?, number(from)?, number(to)?),
+        ["figure", name, rows, figure] => screened(&file(name)?, &choice(rows)?, number(figure)?),
         ["plan", name] => plans::choice(&file(name)?),
         ["list", name] => plans::list(&file(name)?),
         ["judge", name, list] => judge(name, &String::from_utf8_lossy(&file(list)?))?,
@@ -99,6 +102,14 @@ fn route(file: &[u8], choice: &[u32], from: u32, to: u32) -> String {
     match outcome {
         4 => format!("ROUTE{}\n", words(&rows)),
         _ => told([number, row, outcome, set]),
+    }
+}
+
+fn screened(file: &[u8], choice: &[u32], figure: u32) -> String {
+    match oracle::over_figure(file, choice, figure) {
+        [0, _, 1, read] => format!("OVER {read}\n"),
+        [0, _, _, read] => format!("WITHIN {read}\n"),
+        refused => told(refused),
     }
 }
 

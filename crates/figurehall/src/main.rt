@@ -1,0 +1,36 @@
+// Screens choices: for each three arguments, a hall file, its rows such as 1,3 (or - for none) and a figure, prints whether they cost more and how many tell.
+#![tactic(auto)]
+
+use std::io;
+use std::rt::Files;
+
+fn screen<R: Files + Print + Eprint>(
+    rt: &R,
+    name: &str,
+    rows: &str,
+    figure: &str,
+) -> io::Result<()> {
+    let mut room = [0; input::ROOM];
+    let Ok(file) = input::read_file(rt, name, &mut room) else {
+        return Ok(());
+    };
+    let choice = console::numbers_in(rows.as_bytes());
+    let figure = console::first_of(console::numbers_in(figure.as_bytes()).as_slice());
+    console::print_reply(rt, screening::over_figure(file, choice.as_slice(), figure))
+}
+
+fn screen_arguments<R: Files + Print + Eprint>(rt: &R, words: &[String]) -> io::Result<()> {
+    let name = input::argument(words, 0);
+    let rows = input::argument(words, 1);
+    let figure = input::argument(words, 2);
+    print!(rt; "{name} {rows} {figure}: ")?;
+    screen(rt, name, rows, figure)
+}
+
+fn main(rt: HostRuntime) -> io::Result<()> {
+    let words = input::arguments(&rt)?;
+    for asked in words.chunks(3) {
+        screen_arguments(&rt, asked)?;
+    }
+    Ok(())
+}

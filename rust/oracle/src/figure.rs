@@ -1,0 +1,27 @@
+//! Whether a choice costs more than a figure: the whole sum is compared, and so is that of each number of rows from the front.
+
+use crate::{hall_and_choice, Hall, Told};
+
+fn total(hall: &Hall, rows: &[u32]) -> u64 {
+    rows.iter().map(|&i| hall.rows[i as usize - 1].price).sum()
+}
+
+/// What the first rows cost, for each number of them from 0 to all; nothing where the list is no choice of the file's hall.
+pub fn sums(bytes: &[u8], choice: &[u32]) -> Vec<u64> {
+    match hall_and_choice(bytes, choice) {
+        Err(_) => vec![],
+        Ok(hall) => (0..=choice.len()).map(|k| total(&hall, &choice[..k])).collect(),
+    }
+}
+
+/// The reply: number, row, over (1 or 0), and how many rows are read, the fewest from the front that pass the figure, else all.
+pub fn over_figure(bytes: &[u8], choice: &[u32], figure: u32) -> Told {
+    match hall_and_choice(bytes, choice) {
+        Err(refused) => refused,
+        Ok(hall) => {
+            let passes = |rows: &[u32]| total(&hall, rows) > figure.into();
+            let read = (0..choice.len()).find(|&k| passes(&choice[..k])).unwrap_or(choice.len());
+            [0, 0, passes(choice).into(), read as u64]
+        }
+    }
+}
