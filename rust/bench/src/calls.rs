@@ -13,6 +13,7 @@ pub struct Case {
     file: Vec<u8>,
     n: usize,
     choice: Vec<u32>,
+    total: u32,
     rows: Counts,
     cuts: Counts,
 }
@@ -23,7 +24,7 @@ impl Case {
         let of_rows = reference::plan_rows_into(&file, rows).expect("full halls are accepted");
         let of_cuts = reference::plan_cuts_into(&file, shores, weights, levels).expect("full halls are accepted");
         let choice = rows[..of_rows.chosen].to_vec();
-        Case { file, n, choice, rows: of_rows.counts, cuts: of_cuts.counts }
+        Case { file, n, choice, total: of_rows.total, rows: of_rows.counts, cuts: of_cuts.counts }
     }
 }
 
@@ -86,7 +87,16 @@ pub const ROUTES: Call = Call {
     },
 };
 
-pub const CALLS: [Call; 5] = [ROWS, CUTS, CHECK, TIGHT, ROUTES];
+const FIGURES: Call = Call {
+    name: "Figures",
+    what: "The plan's own choice held to its total: every row is read.",
+    counts: None,
+    run: |planner, case, _| {
+        black_box((planner.over)(black_box(&case.file), &case.choice, case.total));
+    },
+};
+
+pub const CALLS: [Call; 6] = [ROWS, CUTS, CHECK, TIGHT, ROUTES, FIGURES];
 
 impl Call {
     /// Nanoseconds of each planner.
