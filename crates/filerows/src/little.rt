@@ -8,8 +8,8 @@ pub fn number(bytes: &[u8], at: usize, width: usize) -> u64
     ensures { (result ≡ field at width bytes.now) × (result < 2 ^ (8 * width)) }
 {
     let mut value = 0;
-    for i in (at..at + width).rev() {
-        value = u64::from(bytes[i]) + 256 * value;
+    for i in (0..width).rev() {
+        value = u64::from(bytes[at + i]) + 256 * value;
     }
     value
 }

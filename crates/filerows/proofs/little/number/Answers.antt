@@ -8,21 +8,20 @@ use Rattle.filerows.proofs.little.number.Goals as goal
 use Rattle.filerows.proofs.little.number.Goals.{After-from}
 
 -- the value with one more byte is small
-more : (c : After-from) → c.from.result + 256 * c.loop-i.value < 2 ^ (8 * (c.args.at + c.args.width - (c.loop-i.i - 1)))
-more c = byte_more c.loop-i.i (c.args.at + c.args.width) c.loop-i.value c.from.result (omega arith) (omega arith) c.loop-i.invariant.2 (omega arith)
+more : (c : After-from) → c.from.result + 256 * c.loop-i.value < 2 ^ (8 * (c.args.width - (c.loop-i.i - 1)))
+more c = byte_more c.loop-i.i c.args.width c.loop-i.value c.from.result (omega arith) (omega arith) c.loop-i.invariant.1 (omega arith)
 
 pub loop-i-init : goal.loop-i-init
-loop-i-init c = let e = c.args.at + c.args.width in (omega arith, sym (field_none c.args.bytes.now e (e - e) (omega arith)), pow_pos (8 * (e - e)))
+loop-i-init c = let w = c.args.width in (sym (field_none c.args.bytes.now (c.args.at + w) (w - w) (omega arith)), pow_pos (8 * (w - w)))
 
 pub overflow_mul-value : goal.overflow_mul-value
-overflow_mul-value c = omega (arith, more c, eight_bytes (c.loop-i.i - 1) (c.args.at + c.args.width) (omega arith))
+overflow_mul-value c = omega (arith, more c, eight_bytes (c.loop-i.i - 1) c.args.width (omega arith))
 
 pub overflow_add-value : goal.overflow_add-value
-overflow_add-value c = omega (arith, more c, eight_bytes (c.loop-i.i - 1) (c.args.at + c.args.width) (omega arith))
+overflow_add-value c = omega (arith, more c, eight_bytes (c.loop-i.i - 1) c.args.width (omega arith))
 
 pub loop-i-preserved : goal.loop-i-preserved
 loop-i-preserved c = (
-  omega arith,
-  omega (arith, field_back c.args.bytes.now c.loop-i.i (c.args.at + c.args.width) (omega arith) (omega arith) (omega arith)),
+  omega (arith, field_back c.args.bytes.now c.args.at c.loop-i.i c.args.width (omega arith) (omega arith) (omega arith)),
   more c,
 )
