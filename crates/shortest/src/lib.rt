@@ -11,16 +11,15 @@ ghost use Rattle.shortest.specs.Steps.{OpenedHall, Noted, RowsOver, Guided};
 
 use columns::Lanes;
 
-// Writes row k for the junction that it leads from, if it leads to one nearer the target.
+// Writes row k for the junction that it leads from, if it leads to one nearer the target, else again what stands there.
 fn note(first: &mut [usize; 64], distances: &[u8; 64], k: usize, from: usize, to: usize)
     requires { (length first.old ≡ 64) × (1 ≤ from) × (from ≤ 64) × (1 ≤ to) × (to ≤ 64) }
     ensures { Noted (at distances.now) k from to first.old first.new }
 {
     let near = usize::from(digraph::distance(distances, to));
     let far = usize::from(digraph::distance(distances, from));
-    if near + 1 == far {
-        first[from - 1] = k;
-    }
+    let kept = first[from - 1];
+    first[from - 1] = if near + 1 == far { k } else { kept };
 }
 
 // For each junction the lowest row that leads from it to one nearer the target: the rows are noted from the last to the first.
