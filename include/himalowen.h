@@ -72,8 +72,8 @@ uint32_t himalowen_route(const uint8_t *file, size_t file_length,
                          int32_t *rows, size_t rows_length,
                          uint64_t reply[HIMALOWEN_ROUTED_PLACES]);
 
-/* Whether the chosen rows, ascending, cost more than a figure, whether they join or not. Rows are read in order until the sum
- * of their prices has passed the figure: the reply tells how many were read, the fewest that pass it, else all. */
+/* Whether the chosen rows, ascending, which need not join, cost more than a figure. They are read in order, and no further than
+ * until their prices add up to more: the reply tells how many were read. */
 uint32_t himalowen_over_figure(const uint8_t *file, size_t file_length,
                                const uint32_t *choice, size_t choice_length,
                                uint32_t figure,

@@ -1,4 +1,4 @@
-// Screens choices: for each three arguments, a hall file, its rows such as 1,3 (or - for none) and a figure, prints whether they cost more and how many tell.
+// Screens choices: for each three arguments, a hall file, its rows such as 1,3 (or - for none) and a figure, prints whether they cost more and how many were read.
 #![tactic(auto)]
 
 use std::io;
@@ -15,7 +15,10 @@ fn screen<R: Files + Print + Eprint>(
         return Ok(());
     };
     let choice = console::numbers_in(rows.as_bytes());
-    let figure = console::first_of(console::numbers_in(figure.as_bytes()).as_slice());
+    let figures = console::numbers_in(figure.as_bytes());
+    let Some(&figure) = figures.as_slice().first() else {
+        return println!(rt; "NO FIGURE");
+    };
     console::print_reply(rt, screening::over_figure(file, choice.as_slice(), figure))
 }
 

@@ -41,7 +41,7 @@ RouteLeaves bs c a b r x old new =
     (t : Result Way Kind) × RouteSays bs c a b t old new × (x ≡ routed_places t) × (r ≡ (answered t).number)
 
 -- the same for the figure
-unfoldable pub FigureLeaves : (bs c : List ℕ) → (limit returned : ℕ) → (reply : List ℕ) → Type 0
+unfoldable pub FigureLeaves : (bs c : List ℕ) → (figure returned : ℕ) → (reply : List ℕ) → Type 0
 FigureLeaves bs c f r x = (t : Result Screened Kind) × FigureSays bs c f t × (x ≡ screened_places t) × (r ≡ (answered t).number)
 
 -- the same for the rows' call: number, row, chosen and total, with the lent list before and after

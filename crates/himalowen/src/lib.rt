@@ -62,7 +62,7 @@ fn screened_places(screened: Result<Screened, Kind>) -> [u64; 4]
     ensures { result ≡ screened_places screened }
 {
     match screened {
-        Ok(rows) => [0, 0, u64::from(rows.over), rows.read as u64],
+        Ok(found) => [0, 0, u64::from(found.over), found.read as u64],
         Err(kind) => refused(kind),
     }
 }

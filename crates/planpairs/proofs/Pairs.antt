@@ -7,7 +7,7 @@ use native.Mathlib.Omega.{arith}
 use lib.Dec.{eqb, ltb}
 use lib.IntN.{ℤ}
 use lib.ListN.{length, replicate, get_or-replicate}
-use borrow.Author.Tests.{ltb-false}
+use borrow.Author.Tests.{ltb-true, ltb-false}
 use Rattle.std.specs.Prelude.{Result, Ok, Err}
 use Rattle.laws.specs.Lists.{at}
 use Rattle.laws.proofs.Booleans.{by_bool, clash}
@@ -18,7 +18,7 @@ use Rattle.refusals.specs.declared.Kind.TheVariants.{ListShort}
 use Rattle.refusals.specs.Kinds.{refusal_of, answered, figure}
 use Rattle.refusals.proofs.Numbers.{kind_number}
 use Rattle.opening.specs.Choice.{room_for}
-use Rattle.opening.proofs.Room.{room_enough}
+use Rattle.opening.proofs.Room.{room_short, room_enough}
 use Rattle.dicuts.specs.Shores.{once}
 use Rattle.order.proofs.Promise.{plannable_first}
 use Rattle.certificates.specs.Cuts.{cuts}
@@ -101,13 +101,17 @@ module _ (bs a b : List ℕ) (d : List ℤ) where
   says_err k e = (e, refused_as (refusal_of k).number (kind_number k).0)
 
   pub says_short : (Room → ⊥) → Says (Err ListShort) a b d
-  unfolding refusal_of room_for
+  unfolding refusal_of
   says_short cramped =
+      let levels = room_for 64 (length d) (hall_refusal bs) in
+      let weights = room_for 125 (length b) levels in
       says_err ListShort
-      (by_bool (ltb (length a) 125) (λ r. rw r refl)
-      (λ r. by_bool (ltb (length b) 125) (λ s. rw (r, s) refl)
-      (λ s. by_bool (ltb (length d) 64) (λ t. rw (r, s, t) refl)
-      (λ t. absurd (cramped (ltb-false (length a) 125 r, ltb-false (length b) 125 s, ltb-false (length d) 64 t))))))
+      (sym (by_bool (ltb (length a) 125) (λ r. room_short 125 (length a) weights (ltb-true (length a) 125 r))
+      (λ r. let fits_a = ltb-false (length a) 125 r in
+      room_enough 125 (length a) weights fits_a ∙ by_bool (ltb (length b) 125) (λ s. room_short 125 (length b) levels (ltb-true (length b) 125 s))
+      (λ s. let fits_b = ltb-false (length b) 125 s in
+      room_enough 125 (length b) levels fits_b ∙ by_bool (ltb (length d) 64) (λ t. room_short 64 (length d) (hall_refusal bs) (ltb-true (length d) 64 t))
+      (λ t. absurd (cramped (fits_a, fits_b, ltb-false (length d) 64 t)))))))
 
   module _ (room : Room) where
     past_room : room_for 125 (length a) (room_for 125 (length b) (room_for 64 (length d) (hall_refusal bs))) ≡ hall_refusal bs

@@ -1,14 +1,16 @@
 -- What rows cost from the front: more rows cost no less, so the rows read tell what all do. Assumes nothing.
-use mathlib.Core.Path.{◌≡◌, sym, ap, ◌∙◌}
+use mathlib.Core.Path.{◌≡◌, refl, sym, ap, ◌∙◌}
 use mathlib.Core.Bool.{true, false}
-use mathlib.Core.List.{List, [], ◌∷◌}
-use Prim.Native.Nat.{ℕ, zero, suc, ◌+◌, ◌≤◌, ◌<◌}
-use native.Mathlib.Numerals.{add-one}
+use mathlib.Core.List.{List}
+use Prim.Native.Nat.{ℕ, ◌+◌, ◌≤◌, ◌<◌}
 use native.Mathlib.Omega.{arith}
 use lib.Dec.{ltb}
 use lib.ListN.{length, get_or, take}
-use lib.Seq.{take_all}
+use lib.Seq.{take_all, take-take}
 use borrow.Author.Tests.{lt-ltb, le-ltb, ltb-true, ltb-false}
+use Rattle.std.specs.Prelude.{sum_by}
+use Rattle.std.proofs.lemmas.List.Sums.{sum_by_more, sum_by-take-le}
+use Rattle.std.proofs.lemmas.List.Recursion.{is_sum_by}
 use Rattle.laws.proofs.Booleans.{by_bool, clash}
 use Rattle.laws.specs.Lists.{at}
 use Rattle.hall.specs.Hall.{Hall, row, count, is_choice}
@@ -27,29 +29,24 @@ chosen_price h x is c chosen k there =
     let inside = ascends_at 1 (count h) c k (choice_ascends h c chosen) there in record_prices h x is (get_or c k 0) inside.0 inside.1
 
 module _ (h : Hall) where
-  -- the first k rows cost no more than all, and than the first of more
-  pub front_whole : (k : ℕ) (c : List ℕ) → total h (take k c) ≤ total h c
-  unfolding total
-  front_whole zero c = omega arith
-  front_whole (suc k) [] = omega arith
-  front_whole (suc k) (i ∷ is) = omega (arith, front_whole k is)
+  abbrev price : ℕ → ℕ
+  price i = (row h i).price
 
-  front_more : (j k : ℕ) (c : List ℕ) → j ≤ k → total h (take j c) ≤ total h (take k c)
+  -- a total is a sum of the kit's
+  total_sum : (c : List ℕ) → total h c ≡ sum_by price c
   unfolding total
-  front_more zero k c l = omega arith
-  front_more (suc j) zero c l = absurd (omega arith)
-  front_more (suc j) (suc k) [] l = omega arith
-  front_more (suc j) (suc k) (i ∷ is) l = omega (arith, front_more j k is (omega arith))
+  total_sum = is_sum_by (total h) price refl (λ i is. refl)
 
-  front_one : (k : ℕ) (c : List ℕ) → k < length c → total h (take (suc k) c) ≡ total h (take k c) + (row h (get_or c k 0)).price
-  unfolding total
-  front_one k [] l = absurd (omega arith)
-  front_one zero (i ∷ is) l = omega arith
-  front_one (suc k) (i ∷ is) l = omega (arith, front_one k is (omega arith))
+  -- the first rows cost no more than all, and than the first of more
+  front_whole : (k : ℕ) (c : List ℕ) → total h (take k c) ≤ total h c
+  front_whole k c = omega (arith, total_sum (take k c), total_sum c, sum_by-take-le price c k)
+
+  front_longer : (j k : ℕ) (c : List ℕ) → j ≤ k → total h (take j c) ≤ total h (take k c)
+  front_longer j k c l = omega (arith, ap (total h) (take-take j k c l), front_whole j (take k c))
 
   -- one row more
-  pub front_next : (k : ℕ) (c : List ℕ) → k < length c → total h (take (k + 1) c) ≡ total h (take k c) + (row h (get_or c k 0)).price
-  front_next k c l = ap (λ (n : ℕ). total h (take n c)) (add-one k) ∙ front_one k c l
+  pub front_next : (k : ℕ) (c : List ℕ) → k < length c → total h (take (k + 1) c) ≡ total h (take k c) + price (get_or c k 0)
+  front_next k c l = omega (arith, total_sum (take (k + 1) c), total_sum (take k c), sum_by_more price c k 0 l)
 
   module _ (figure : ℕ) (c : List ℕ) where
     -- where the row at place k takes the sum past the figure, it is the last that is read
@@ -60,7 +57,7 @@ module _ (h : Hall) where
           over = sym (lt-ltb figure (total h c) (omega (arith, past, front_whole (k + 1) c)));
           read = record {
             most = omega arith;
-            fewest = λ j l. le-ltb figure (total h (take j c)) (omega (arith, so_far, front_more j k c (omega arith)));
+            fewest = λ j l. le-ltb figure (total h (take j c)) (omega (arith, so_far, front_longer j k c (omega arith)));
             passed = λ l. lt-ltb figure (total h (take (k + 1) c)) past;
           };
         }
@@ -77,7 +74,7 @@ module _ (h : Hall) where
           };
         }
 
-    -- two that are read differ in no row: the one that is not the last to be read would have passed, and not
+    -- of two numbers of rows read none is below the other: by the lesser its sum has passed, by the greater it has not
     no_fewer : (r s : ℕ) → Read h figure c r → Read h figure c s → s ≤ r
     no_fewer r s short long =
         by_bool (ltb r s)

@@ -24,7 +24,7 @@ impl fmt::Display for Screened {
     }
 }
 
-// Reads rows until their prices have passed the figure. What is left of the figure never goes below 0, so no sum can wrap.
+// Takes the prices of rows off the figure, and stops at one that is more than what is left: no sum is held, and none can wrap.
 fn screen(hall: &HallRecord, choice: &[u32], figure: u32) -> Screened
     requires { ascends_from 1 256 choice.now ≡ true }
     ensures { (h : Hall) → RecordOf h hall.now → is_choice h choice.now ≡ true → Screens h figure choice.now result }
@@ -46,8 +46,8 @@ fn screen(hall: &HallRecord, choice: &[u32], figure: u32) -> Screened
     }
 }
 
-// Whether a choice, joining or not, costs more than the figure: refusals 2 to 9, 15 and 10 in their order, or the answer with the
-// fewest rows from the front that pass the figure, else all.
+// Whether a choice, joining or not, costs more than the figure, and how many first rows it takes to tell: refusals 2 to 9, 15 and 10
+// in their order.
 pub fn over_figure(file: &[u8], choice: &[u32], figure: u32) -> Result<Screened, Kind>
     ensures { FigureSays file.now choice.now figure result }
 {

@@ -11,7 +11,7 @@ ghost use Rattle.shortest.specs.Steps.{OpenedHall, Noted, RowsOver, Guided};
 
 use columns::Lanes;
 
-// Writes row k for the junction that it leads from, if it leads to one nearer the target, else again what stands there.
+// Writes row k for the junction that it leads from, if it leads to one nearer the target, else again what stands there, which makes the loop faster.
 fn note(first: &mut [usize; 64], distances: &[u8; 64], k: usize, from: usize, to: usize)
     requires { (length first.old ≡ 64) × (1 ≤ from) × (from ≤ 64) × (1 ≤ to) × (to ≤ 64) }
     ensures { Noted (at distances.now) k from to first.old first.new }

@@ -35,11 +35,11 @@ pub fn calls_with_a_choice(planner: &Planner, file: &[u8], seed: u64) -> Outcome
     some_routes(planner, file, &lists, &mut random)
 }
 
-/// Figures around what some of the rows cost, around what all do, and the least and the largest.
+/// Figures around what all rows cost, around what the first of them do, as many as are drawn, and the least and the largest.
 fn figures(planner: &Planner, file: &[u8], list: &[u32], random: &mut Random) -> Outcome {
     let sums = oracle::sums(file, list);
     let all = sums.last().copied();
-    let some = all.map(|_| random.pick(&sums));
+    let some = (!sums.is_empty()).then(|| random.pick(&sums));
     let around = |sum: u64| [sum.saturating_sub(1), sum, sum + 1].map(|figure| figure as u32);
     for figure in all.into_iter().chain(some).flat_map(around).chain([0, u32::MAX]) {
         same("figure", (planner.over)(file, list, figure), oracle::over_figure(file, list, figure))?;

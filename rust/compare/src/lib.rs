@@ -12,9 +12,6 @@ pub type Told = [u64; 4];
 /// Number, row, outcome, set, filled.
 pub type Routed = [u64; 5];
 
-/// Number, row, over (1 or 0), read.
-pub type Screened = [u64; 4];
-
 /// Number, row; then chosen, total for the rows' call, and cuts, levels for the cuts' call.
 pub type Planned = [u64; 4];
 
@@ -55,7 +52,7 @@ pub struct Planner {
     pub check: fn(&[u8], &[u32]) -> Told,
     pub tight: fn(&[u8], &[u32], u32) -> Told,
     pub route: Route,
-    pub over: fn(&[u8], &[u32], u32) -> Screened,
+    pub over: fn(&[u8], &[u32], u32) -> oracle::Screened,
     pub rows: Plan,
     pub cuts: Plan,
 }

@@ -117,8 +117,8 @@ pub fn route(file: &[u8], choice: &[u32], from: u32, to: u32) -> Result<Way<Vec<
     })
 }
 
-/// Whether the chosen rows, joining or not, cost more than `figure`. Rows are read in order until their prices have passed it:
-/// the fewest that do, else all.
+/// Whether the chosen rows, which need not join, cost more than `figure`. They are read in order, and no further than until
+/// their prices add up to more.
 pub fn over_figure(file: &[u8], choice: &[u32], figure: u32) -> Result<Screened, Refusal> {
     let [number, row, over, read] = boundary::over_figure(file, choice, figure);
     accepted(number, row)?;

@@ -1,6 +1,6 @@
 //! Choices of a path of four junctions, whose rows 1, 2 and 3 cost 2, 0 and 5, held to figures.
 
-use himalowen::{over_figure, Refusal, Screened};
+use himalowen::{check, over_figure, Finding, Refusal, Screened};
 
 /// One block of three rows: from, to, price.
 fn path() -> Vec<u8> {
@@ -19,7 +19,7 @@ fn screened(choice: &[u32], figure: u32) -> (bool, usize) {
 }
 
 #[test]
-fn the_total_is_within_and_a_figure_below_it_is_not() {
+fn a_choice_is_not_over_its_total_but_over_less() {
     assert_eq!(screened(&[1, 2, 3], 7), (false, 3));
     assert_eq!(screened(&[1, 2, 3], 6), (true, 3));
     assert_eq!(screened(&[1, 2, 3], u32::MAX), (false, 3));
@@ -36,6 +36,13 @@ fn reading_stops_where_the_figure_is_passed() {
 fn no_rows_and_rows_that_cost_nothing_are_within_0() {
     assert_eq!(screened(&[], 0), (false, 0));
     assert_eq!(screened(&[2], 0), (false, 1));
+}
+
+#[test]
+fn a_choice_need_not_join() {
+    assert_eq!(check(&path(), &[1, 3]), Ok(Finding::Misses(0b1100)));
+    assert_eq!(screened(&[1, 3], 7), (false, 2));
+    assert_eq!(screened(&[1, 3], 6), (true, 2));
 }
 
 #[test]

@@ -1,6 +1,9 @@
 //! Whether a choice costs more than a figure: the whole sum is compared, and so is that of each number of rows from the front.
 
-use crate::{hall_and_choice, Hall, Told};
+use crate::{hall_and_choice, Hall};
+
+/// The reply: number, row, over (1 or 0), and how many rows are read.
+pub type Screened = [u64; 4];
 
 fn total(hall: &Hall, rows: &[u32]) -> u64 {
     rows.iter().map(|&i| hall.rows[i as usize - 1].price).sum()
@@ -14,8 +17,8 @@ pub fn sums(bytes: &[u8], choice: &[u32]) -> Vec<u64> {
     }
 }
 
-/// The reply: number, row, over (1 or 0), and how many rows are read, the fewest from the front that pass the figure, else all.
-pub fn over_figure(bytes: &[u8], choice: &[u32], figure: u32) -> Told {
+/// Over, if all rows together cost more. Read are as many first rows as it takes to cost more, or all where no number of them does.
+pub fn over_figure(bytes: &[u8], choice: &[u32], figure: u32) -> Screened {
     match hall_and_choice(bytes, choice) {
         Err(refused) => refused,
         Ok(hall) => {

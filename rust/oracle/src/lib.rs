@@ -11,7 +11,7 @@ mod route;
 mod small;
 
 pub use certificate::{faults, Claim};
-pub use figure::{over_figure, sums};
+pub use figure::{over_figure, sums, Screened};
 pub use first::unshown;
 pub use hall::{hall_in, unfixed, Hall};
 pub use list::{judge, printed, words, Listed};
@@ -23,8 +23,7 @@ use std::collections::BTreeMap;
 
 use hall::everything;
 
-/// The reply to a check or to a tight neighbourhood: number, row, outcome (1 joins, 2 misses, 3 a neighbourhood), set. Other
-/// replies of four numbers begin with number and row, too.
+/// The reply to a check or to a tight neighbourhood: number, row, outcome (1 joins, 2 misses, 3 a neighbourhood), set.
 pub type Told = [u64; 4];
 
 pub fn holds(set: u64, junction: u64) -> bool {
