@@ -4,26 +4,18 @@
 use std::io;
 use std::rt::Files;
 
-fn check_pair<R: Files + Print + Eprint>(rt: &R, name: &str, rows: &str) -> io::Result<()> {
-    let mut room = [0; input::ROOM];
-    let Ok(file) = input::read_file(rt, name, &mut room) else {
-        return Ok(());
-    };
+fn print_check(rt: &impl Print, file: &[u8], rows: &str) -> io::Result<()> {
     let choice = console::numbers_in(rows.as_bytes());
     console::print_reply(rt, checking::check_choice(file, choice.as_slice()))
 }
 
-fn check_arguments<R: Files + Print + Eprint>(rt: &R, words: &[String]) -> io::Result<()> {
+fn check<R: Files + Print + Eprint>(rt: &R, words: &[String]) -> io::Result<()> {
     let name = input::argument(words, 0);
     let rows = input::argument(words, 1);
     print!(rt; "{name} {rows}: ")?;
-    check_pair(rt, name, rows)
+    input::answer_file(rt, name, |file| print_check(rt, file, rows))
 }
 
 fn main(rt: HostRuntime) -> io::Result<()> {
-    let words = input::arguments(&rt)?;
-    for pair in words.chunks(2) {
-        check_arguments(&rt, pair)?;
-    }
-    Ok(())
+    input::answer_each(&rt, 2, |words| check(&rt, words))
 }

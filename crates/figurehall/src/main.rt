@@ -4,16 +4,7 @@
 use std::io;
 use std::rt::Files;
 
-fn screen<R: Files + Print + Eprint>(
-    rt: &R,
-    name: &str,
-    rows: &str,
-    figure: &str,
-) -> io::Result<()> {
-    let mut room = [0; input::ROOM];
-    let Ok(file) = input::read_file(rt, name, &mut room) else {
-        return Ok(());
-    };
+fn print_screened(rt: &impl Print, file: &[u8], rows: &str, figure: &str) -> io::Result<()> {
     let choice = console::numbers_in(rows.as_bytes());
     let figures = console::numbers_in(figure.as_bytes());
     let Some(&figure) = figures.as_slice().first() else {
@@ -22,18 +13,14 @@ fn screen<R: Files + Print + Eprint>(
     console::print_reply(rt, screening::over_figure(file, choice.as_slice(), figure))
 }
 
-fn screen_arguments<R: Files + Print + Eprint>(rt: &R, words: &[String]) -> io::Result<()> {
+fn screen<R: Files + Print + Eprint>(rt: &R, words: &[String]) -> io::Result<()> {
     let name = input::argument(words, 0);
     let rows = input::argument(words, 1);
     let figure = input::argument(words, 2);
     print!(rt; "{name} {rows} {figure}: ")?;
-    screen(rt, name, rows, figure)
+    input::answer_file(rt, name, |file| print_screened(rt, file, rows, figure))
 }
 
 fn main(rt: HostRuntime) -> io::Result<()> {
-    let words = input::arguments(&rt)?;
-    for asked in words.chunks(3) {
-        screen_arguments(&rt, asked)?;
-    }
-    Ok(())
+    input::answer_each(&rt, 3, |words| screen(&rt, words))
 }

@@ -56,27 +56,40 @@ fn open_and_read<R: Files>(rt: &R, name: &str, buf: &mut [u8]) -> io::Result<usi
     read_all(&mut file, buf)
 }
 
-// The bytes of a file by its name, as many as fit. Where it cannot be opened or read, standard error says why.
-pub fn read_file<'a, R: Files + Eprint>(
+// Answers the bytes of a file by its name, as many as fit. Where it cannot be opened or read, standard error says why, and nothing is answered.
+pub fn answer_file<R: Files + Eprint, F: FnOnce(&[u8]) -> io::Result<()>>(
     rt: &R,
     name: &str,
-    buf: &'a mut [u8],
-) -> io::Result<&'a [u8]>
-    ensures { IfOk result (λ bytes. length bytes.now ≤ length buf.old) }
+    answer: F,
+) -> io::Result<()>
+    requires { F.IsAlwaysCallable answer }
 {
-    match open_and_read(rt, name, buf) {
-        Ok(size) => Ok(&buf[..size]),
-        Err(error) => {
-            eprintln!(rt; "{name}: {error}")?;
-            Err(error)
-        }
+    let mut room = [0; ROOM];
+    match open_and_read(rt, name, &mut room) {
+        Ok(size) => answer(&room[..size]),
+        Err(error) => eprintln!(rt; "{name}: {error}"),
     }
 }
 
 // The words that a program is started with, after its own name.
-pub fn arguments<R: Env + AllocGlobal>(rt: &R) -> io::Result<Vec<String>> {
+fn arguments<R: Env + AllocGlobal>(rt: &R) -> io::Result<Vec<String>> {
     let words = env::args(rt)?.skip(1).collect(rt.alloc())?;
     Ok(words)
+}
+
+// Answers the words that a program is started with, so many at a time, and the last ones that are left. It ends where an answer fails.
+pub fn answer_each<R: Env + AllocGlobal, F: Fn(&[String]) -> io::Result<()>>(
+    rt: &R,
+    size: usize,
+    answer: F,
+) -> io::Result<()>
+    requires { (1 ≤ size) × F.IsAlwaysCallable answer }
+{
+    let words = arguments(rt)?;
+    for asked in words.chunks(size) {
+        answer(asked)?;
+    }
+    Ok(())
 }
 
 // The word at a place, from 0; the empty text where there is none, and no option: programs print it as it is.

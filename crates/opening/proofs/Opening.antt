@@ -46,20 +46,23 @@ row_flags chosen c m few f i l u = let same : suc (i - 1) ≡ i = omega arith in
 
 -- without a refusal the hall is read and the list is a choice
 module _ (bs c : List ℕ) (passed : eqb (choice_refusal bs c).number 0 ≡ true) where
-  pub hall_fine : eqb (hall_refusal bs).number 0 ≡ true
+  hall_fine : eqb (hall_refusal bs).number 0 ≡ true
   hall_fine = by_bool (eqb (hall_refusal bs).number 0) (λ e. e) (λ e. clash passed (ap (λ (f : Refusal). eqb f.number 0) (hall-refused bs c e) ∙ e))
 
-  pub list_chosen : is_choice (hall_in bs) c ≡ true
+  list_chosen : is_choice (hall_in bs) c ≡ true
   unfolding refusal
   list_chosen = by_bool (is_choice (hall_in bs) c) (λ e. e) (λ e. clash passed (ap (λ (f : Refusal). eqb f.number 0) (list_refused bs c hall_fine e)))
 
 -- of a hall that is opened
 module _ (bs c : List ℕ) (o : Opened) (got : Opening bs c (Ok o)) where
-  pub passed : eqb (choice_refusal bs c).number 0 ≡ true
+  passed : eqb (choice_refusal bs c).number 0 ≡ true
   passed = answer_fine o (choice_refusal bs c) got.refusal
 
   pub unrefused : choice_refusal bs c ≡ refusal 0 0
   unrefused = answer_none o (choice_refusal bs c) got.refusal
+
+  pub chosen : is_choice (hall_in bs) c ≡ true
+  chosen = list_chosen bs c passed
 
   pub ranged : Ranged (hall_in bs)
   ranged = accepted.ranged bs (hall_fine bs c passed)

@@ -4,19 +4,16 @@
 use std::io;
 use std::rt::Files;
 
-fn print_argument<R: Files + Print + Eprint>(rt: &R, name: &str) -> io::Result<()> {
-    let mut room = [0; input::ROOM];
-    let Ok(file) = input::read_file(rt, name, &mut room) else {
-        return Ok(());
-    };
+fn print_named(rt: &impl Print, name: &str, file: &[u8]) -> io::Result<()> {
     println!(rt; "{name}:")?;
     report::print_list(rt, file)
 }
 
+fn print_argument<R: Files + Print + Eprint>(rt: &R, words: &[String]) -> io::Result<()> {
+    let name = input::argument(words, 0);
+    input::answer_file(rt, name, |file| print_named(rt, name, file))
+}
+
 fn main(rt: HostRuntime) -> io::Result<()> {
-    let words = input::arguments(&rt)?;
-    for word in &words {
-        print_argument(&rt, word.as_str())?;
-    }
-    Ok(())
+    input::answer_each(&rt, 1, |words| print_argument(&rt, words))
 }

@@ -50,7 +50,7 @@ module _ (h : Hall) where
 
   module _ (figure : ℕ) (c : List ℕ) where
     -- where the row at place k takes the sum past the figure, it is the last that is read
-    pub screens_over : (k left : ℕ) → left + total h (take k c) ≡ figure → k < length c → left < (row h (get_or c k 0)).price
+    pub screens_over : (k left : ℕ) → left + total h (take k c) ≡ figure → k < length c → left < price (get_or c k 0)
         → Screens h figure c (record { over = true; read = k + 1 })
     screens_over k left so_far there more =
         let past : figure < total h (take (k + 1) c) = omega (arith, so_far, more, front_next k c there) in record {
@@ -81,17 +81,14 @@ module _ (h : Hall) where
         (λ t. let less = ltb-true r s t in clash (short.passed (omega (arith, less, long.most))) (long.fewest r less))
         (λ t. ltb-false r s t)
 
-    tells : (r : ℕ) → Read h figure c r → ltb figure (total h (take r c)) ≡ ltb figure (total h c)
-    tells r read =
-        by_bool (ltb r (length c))
-        (λ t. let past = read.passed (ltb-true r (length c) t) in
-        past ∙ sym (lt-ltb figure (total h c) (omega (arith, ltb-true figure (total h (take r c)) past, front_whole r c))))
-        (λ t. ap (λ (d : List ℕ). ltb figure (total h d)) (take_all r c (ltb-false r (length c) t)))
-
 pub read_alone : ReadAlone
 unfolding ReadAlone
 read_alone h figure c r s read other = omega (arith, no_fewer h figure c r s read other, no_fewer h figure c s r other read)
 
 pub read_tells : ReadTells
 unfolding ReadTells
-read_tells h figure c r read = tells h figure c r read
+read_tells h figure c r read =
+    by_bool (ltb r (length c))
+    (λ t. let past = read.passed (ltb-true r (length c) t) in
+    past ∙ sym (lt-ltb figure (total h c) (omega (arith, ltb-true figure (total h (take r c)) past, front_whole h r c))))
+    (λ t. ap (λ (d : List ℕ). ltb figure (total h d)) (take_all r c (ltb-false r (length c) t)))

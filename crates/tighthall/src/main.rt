@@ -4,34 +4,21 @@
 use std::io;
 use std::rt::Files;
 
-fn look_around<R: Files + Print + Eprint>(
-    rt: &R,
-    name: &str,
-    rows: &str,
-    junction: &str,
-) -> io::Result<()> {
-    let mut room = [0; input::ROOM];
-    let Ok(file) = input::read_file(rt, name, &mut room) else {
-        return Ok(());
-    };
+fn print_around(rt: &impl Print, file: &[u8], rows: &str, junction: &str) -> io::Result<()> {
     let choice = console::numbers_in(rows.as_bytes());
     let junction = console::first_of(console::numbers_in(junction.as_bytes()).as_slice());
     let reply = neighbourhood::tight_neighbourhood(file, choice.as_slice(), junction);
     console::print_reply(rt, reply)
 }
 
-fn look_for_arguments<R: Files + Print + Eprint>(rt: &R, words: &[String]) -> io::Result<()> {
+fn look_around<R: Files + Print + Eprint>(rt: &R, words: &[String]) -> io::Result<()> {
     let name = input::argument(words, 0);
     let rows = input::argument(words, 1);
     let junction = input::argument(words, 2);
     print!(rt; "{name} {rows} {junction}: ")?;
-    look_around(rt, name, rows, junction)
+    input::answer_file(rt, name, |file| print_around(rt, file, rows, junction))
 }
 
 fn main(rt: HostRuntime) -> io::Result<()> {
-    let words = input::arguments(&rt)?;
-    for asked in words.chunks(3) {
-        look_for_arguments(&rt, asked)?;
-    }
-    Ok(())
+    input::answer_each(&rt, 3, |words| look_around(&rt, words))
 }

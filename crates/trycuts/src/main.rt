@@ -26,18 +26,11 @@ fn try_file(rt: &impl Print, name: &str, file: &[u8]) -> io::Result<()> {
     Ok(())
 }
 
-fn try_argument<R: Files + Print + Eprint>(rt: &R, name: &str) -> io::Result<()> {
-    let mut room = [0; input::ROOM];
-    let Ok(file) = input::read_file(rt, name, &mut room) else {
-        return Ok(());
-    };
-    try_file(rt, name, file)
+fn try_argument<R: Files + Print + Eprint>(rt: &R, words: &[String]) -> io::Result<()> {
+    let name = input::argument(words, 0);
+    input::answer_file(rt, name, |file| try_file(rt, name, file))
 }
 
 fn main(rt: HostRuntime) -> io::Result<()> {
-    let words = input::arguments(&rt)?;
-    for word in &words {
-        try_argument(&rt, word.as_str())?;
-    }
-    Ok(())
+    input::answer_each(&rt, 1, |words| try_argument(&rt, words))
 }

@@ -11,7 +11,6 @@ use Rattle.refusals.specs.Kinds.{answered}
 use Rattle.choice.specs.Short.{shore_of}
 use Rattle.neighbourhood.specs.Tight.{TightSays}
 use Rattle.neighbourhood.proofs.Tight.{found_outside, found_missed, found_around, around_found}
-use Rattle.opening.proofs.Opening.{list_chosen}
 use Rattle.opening.proofs.Opening as opening
 use Rattle.neighbourhood.proofs.tight_neighbourhood.Goals as goal
 use Rattle.neighbourhood.proofs.tight_neighbourhood.Goals.{In_ok-opened, Joined-then-v-eq0, Else-lanes-v, After-missed_shore, then-v-eq0-via-then-v-eq0, then-v-eq0-via-else-v-eq0+then-lanes-v}
@@ -85,7 +84,7 @@ returns c =
     let met : none ≡ missed (hall at.In_ok-opened) c.args.choice.now = ap shore_of (sym c.in_default.is) ∙ shore_is at.After-missed_shore in (
       got.refusal,
       found_around c.args.file.now c.args.choice.now c.args.junction o.hall.lanes.n (sym lanes_of.junctions) (least at.Else-lanes-v) (most at.Else-lanes-v) met c.neighbourhood_of-set.result
-          (around_found (hall at.In_ok-opened) ranged c.args.choice.now (list_chosen c.args.file.now c.args.choice.now (opening.passed _ _ _ got)) met o.chosen
+          (around_found (hall at.In_ok-opened) ranged c.args.choice.now (opening.chosen _ _ _ got) met o.chosen
           (λ i l u. opening.flags _ _ _ got i l (omega (arith, lanes_of.rows))) c.args.junction c.neighbourhood_of-set.result
           (c.neighbourhood_of-set.ensures (hall at.In_ok-opened) lanes_of ranged)),
     )

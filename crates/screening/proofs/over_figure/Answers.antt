@@ -1,9 +1,8 @@
 -- `screening::over_figure` meets its contract: it passes on the refusal that opening the hall gave, or says what the rows read tell. Assumes nothing.
 use mathlib.Core.Path.{◌≡◌}
-use mathlib.Core.Bool.{true}
 use native.Mathlib.Omega.{arith}
 use Rattle.std.proofs.Common.{rules, Err}
-use Rattle.hall.specs.Hall.{is_choice, count}
+use Rattle.hall.specs.Hall.{count}
 use Rattle.hall.specs.File.{hall_in}
 use Rattle.dicuts.proofs.Choices.{choice_ascends}
 use Rattle.choice.proofs.Ascent.{ascends_wider}
@@ -11,11 +10,6 @@ use Rattle.refusals.specs.Kinds.{answered}
 use Rattle.opening.proofs.Opening as opening
 use Rattle.screening.specs.Figure.{FigureSays}
 use Rattle.screening.proofs.over_figure.Goals as goal
-use Rattle.screening.proofs.over_figure.Goals.{In_ok-opened}
-
--- where the hall is opened, the list is a choice
-chosen : (c : In_ok-opened) → is_choice (hall_in c.args.file.now) c.args.choice.now ≡ true
-chosen c = opening.list_chosen c.args.file.now c.args.choice.now (opening.passed c.args.file.now c.args.choice.now c.in_ok-opened.opened c.in_ok-opened.ensures)
 
 pub returns-in_err-opened : goal.returns-in_err-opened
 unfolding FigureSays answered
@@ -26,11 +20,12 @@ returns-in_err-opened c =
 pub screen-requires : goal.screen-requires
 screen-requires c =
     let h = hall_in c.args.file.now in
-    ascends_wider 1 (count h) 256 c.args.choice.now (omega (arith, (opening.columns _ _ _ c.in_ok-opened.ensures).rows, c.in_ok-opened.opened.hall.lanes.ends.few))
-    (choice_ascends h c.args.choice.now (chosen (goal.at.screen-requires c).In_ok-opened))
+    let got = c.in_ok-opened.ensures in
+    ascends_wider 1 (count h) 256 c.args.choice.now (omega (arith, (opening.columns _ _ _ got).rows, c.in_ok-opened.opened.hall.lanes.ends.few))
+    (choice_ascends h c.args.choice.now (opening.chosen _ _ _ got))
 
 pub returns : goal.returns
 unfolding FigureSays answered
 returns c =
     let got = c.in_ok-opened.ensures in
-    (got.refusal, c.screen.ensures (hall_in c.args.file.now) got.hall (chosen (goal.at.returns c).In_ok-opened))
+    (got.refusal, c.screen.ensures (hall_in c.args.file.now) got.hall (opening.chosen _ _ _ got))
