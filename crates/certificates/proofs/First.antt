@@ -1,13 +1,10 @@
 -- The cuts of a potential that meets P1, P2 and P3 for the charges, with any set of rows, stand beside the first choice: its total is what that set is charged. Assumes nothing.
-use mathlib.Core.Path.{◌≡◌, ap}
-use mathlib.Core.Bool.{Bool, true}
+use mathlib.Core.Path.{◌≡◌}
+use mathlib.Core.Bool.{Bool}
 use mathlib.Core.List.{List}
 use Prim.Native.Nat.{ℕ, ◌≤◌}
 use native.Mathlib.Omega.{arith}
-use lib.Dec.{leb}
-use borrow.Author.Tests.{leb-true, leb-false}
-use Rattle.laws.proofs.Booleans.{by_bool}
-use Rattle.hall.specs.Hall.{Hall, is_choice, joins}
+use Rattle.hall.specs.Hall.{Hall}
 use Rattle.hall.specs.Plan.{First, Cut, Beside, total}
 use Rattle.dicuts.specs.Shores.{Ranged, Linked, once}
 use Rattle.dicuts.specs.Listed.{listed, NoneFixed}
@@ -15,9 +12,8 @@ use Rattle.dicuts.proofs.Listed.{listed_choice}
 use Rattle.joining.proofs.Joins.{listed-joins}
 use Rattle.potentials.specs.Potential.{cost}
 use Rattle.potentials.specs.Repair.{Repaired}
-use Rattle.order.specs.Precedes.{Precedes, by_total, by_length, by_dictionary}
 use Rattle.order.specs.Ranked.{charge, Plannable}
-use Rattle.order.proofs.Before.{before_why}
+use Rattle.order.proofs.First.{first_least}
 use Rattle.duality.proofs.Beside.{weights_below_total}
 use Rattle.duality.proofs.Meeting.{joins_meeting}
 use Rattle.certificates.specs.Cuts.{peak, cuts}
@@ -28,19 +24,6 @@ use Rattle.certificates.proofs.Classes.{peak_high}
 use Rattle.certificates.proofs.Beside.{weights-cost, charged_loads, certificate_beside}
 
 module _ (h : Hall) where
-  precedes_most : (c d : List ℕ) → Precedes h c d → total h c ≤ total h d
-  precedes_most c d (by_total l) = omega arith
-  precedes_most c d (by_length e l) = omega arith
-  precedes_most c d (by_dictionary e k t) = omega arith
-
-  -- no joining choice has a smaller total than the first
-  pub first_least : (c d : List ℕ) → First h c → is_choice h d ≡ true → joins h d ≡ true → total h c ≤ total h d
-  first_least c d first choice joining =
-      by_bool (leb (total h c) (total h d)) (λ e. leb-true (total h c) (total h d) e)
-      (λ e.
-      let less = leb-false (total h c) (total h d) e in
-      precedes_most c d (before_why h c d (first.before d choice joining (λ q. omega (arith, ap (total h) q)))))
-
   module _ (able : Plannable h) (ranged : Ranged h) (linked : Linked h) (c : List ℕ) (first : First h c) (p : ℕ → ℕ) (F : ℕ → Bool) (done : Repaired h (charge h) p F) where
     module _ (top : ℕ) (high : (j : ℕ) → 1 ≤ j → j ≤ h.n → p j ≤ top) where
       proof : Certificate h (once F) p (cuts h (once F) p top)
@@ -60,7 +43,7 @@ module _ (h : Hall) where
       unfixed = cheap_unfixed h F (omega (arith, charged_least, choice_cheap h able c first.choice))
 
       same_total : cost h (charge h) F ≡ total h c
-      same_total = omega (arith, charged_least, listed_charges h F unfixed, first_least c (listed h F) first (listed_choice h F unfixed) (listed-joins h ranged F done.joining))
+      same_total = omega (arith, charged_least, listed_charges h F unfixed, first_least h c (listed h F) first (listed_choice h F unfixed) (listed-joins h ranged F done.joining))
 
       pub beside_first : Beside h c (cuts h (once F) p top)
       beside_first = certificate_beside h F p (cuts h (once F) p top) proof done.under ranged linked c same_total done.paid

@@ -5,14 +5,14 @@ use mathlib.Core.List.{List}
 use Prim.Native.Nat.{ℕ}
 use native.Mathlib.Omega.{arith}
 use lib.Dec.{ltb}
-use lib.ListN.{length}
 use borrow.Author.Tests.{ltb-true, ltb-false}
 use Rattle.laws.proofs.Booleans.{by_bool}
 use Rattle.hall.specs.Hall.{Hall, row, count, member, is_none, joins}
 use Rattle.hall.specs.File.{hall_in}
 use Rattle.hall.specs.Plan.{total, goes_before}
 use Rattle.order.specs.Precedes.{by_total, by_length}
-use Rattle.order.proofs.Before.{before_of, before_irreflexive, before_trans}
+use Rattle.order.proofs.Before.{before_of}
+use Rattle.order.proofs.First.{none_before}
 use Rattle.dicuts.proofs.Choices.{ascends_members, choice_ascends}
 use Rattle.loops.specs.Loops.{left_out, LoopsClosed, LoopsIdle, LeftOutChoice}
 use Rattle.loops.proofs.Idle.{loop_enters, loop_leaves, missed-without, tight-without}
@@ -36,9 +36,7 @@ loops_closed bs c i acc first in_it loop =
     let rest = left_out i c in
     let low = (ascends_members (count h) 1 c i (choice_ascends h c first.choice) in_it).0 in
     let joins_rest = ap is_none (sym (missed-without h i low loop c)) ∙ first.joining in
-    let other : c ≡ rest → ⊥ = λ e. let same = ap (λ (d : List ℕ). length d) e in omega (arith, same, left_out_shorter i c in_it) in
-    before_irreflexive h c
-    (before_trans h c rest c (first.before rest (left_out_choice bs c i first.choice) joins_rest other) (left_out_before h c i in_it))
+    none_before h c rest first (left_out_choice bs c i first.choice) joins_rest (left_out_before h c i in_it)
 
 pub loops_idle : LoopsIdle
 unfolding LoopsIdle

@@ -3,7 +3,7 @@ use mathlib.Core.Path.{◌≡◌, sym}
 use mathlib.Core.Bool.{true, ◌&&◌, ◌||◌}
 use mathlib.Core.List.{List}
 use mathlib.Core.Logic.{◌⊎◌, inl, inr, ⊎_elim}
-use Prim.Native.Nat.{ℕ, ◌<◌}
+use Prim.Native.Nat.{ℕ, ◌<◌, ◌≤◌}
 use native.Mathlib.Omega.{arith}
 use lib.Dec.{ltb, eqb}
 use lib.ListN.{length}
@@ -34,6 +34,15 @@ module _ (h : Hall) where
       by_dictionary same (eqb-true (length c) (length d) (and_l (eqb (length c) (length d)) (earlier c d) r)) (and_r (eqb (length c) (length d)) (earlier c d) r))
       (or_cases (ltb (length c) (length d)) (eqb (length c) (length d) && earlier c d) (and_r (eqb (total h c) (total h d)) (ltb (length c) (length d) || (eqb (length c) (length d) && earlier c d)) q)))
       (or_cases (ltb (total h c) (total h d)) (eqb (total h c) (total h d) && (ltb (length c) (length d) || (eqb (length c) (length d) && earlier c d))) e)
+
+  precedes_most : (c d : List ℕ) → Precedes h c d → total h c ≤ total h d
+  precedes_most c d (by_total l) = omega arith
+  precedes_most c d (by_length e l) = omega arith
+  precedes_most c d (by_dictionary e l t) = omega arith
+
+  -- what goes before costs no more
+  pub before_most : (c d : List ℕ) → goes_before h c d ≡ true → total h c ≤ total h d
+  before_most c d e = precedes_most c d (before_why c d e)
 
   precedes_irreflexive : (c : List ℕ) → Precedes h c c → ⊥
   precedes_irreflexive c (by_total l) = omega arith

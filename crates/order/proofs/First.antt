@@ -1,16 +1,16 @@
 -- Where some choice joins, one joining choice goes before every other, and only one does. Assumes nothing.
-use mathlib.Core.Path.{◌≡◌}
+use mathlib.Core.Path.{◌≡◌, ap}
 use mathlib.Core.Bool.{Bool, true, ◌&&◌}
 use mathlib.Core.List.{List}
 use mathlib.Core.Logic.{⊎_elim}
-use Prim.Native.Nat.{ℕ}
+use Prim.Native.Nat.{ℕ, ◌≤◌}
 use native.Mathlib.Omega.{arith}
 use Rattle.laws.proofs.Booleans.{and_l, and_r, and_i}
 use Rattle.hall.specs.Hall.{Hall, count, ascends_from, none_fixed, is_choice, joins}
-use Rattle.hall.specs.Plan.{goes_before, First}
+use Rattle.hall.specs.Plan.{total, goes_before, First}
 use Rattle.dicuts.proofs.Choices.{choice_ascends}
 use Rattle.order.specs.Least.{AtMost, Order, Least, Passes}
-use Rattle.order.proofs.Before.{before_irreflexive, before_trans, before_total}
+use Rattle.order.proofs.Before.{before_irreflexive, before_trans, before_total, before_most}
 use Rattle.order.proofs.Least.{least_passing}
 
 module _ (h : Hall) where
@@ -45,14 +45,23 @@ module _ (h : Hall) where
       let w = least_choice (joins h) c choice joining in
       (w.0, record { choice = w.1; joining = w.2; before = w.3 })
 
+  -- no joining choice goes before the first
+  pub none_before : (c d : List ℕ) → First h c → is_choice h d ≡ true → joins h d ≡ true → goes_before h d c ≡ true → ⊥
+  none_before c d first choice joining p =
+      let other : c ≡ d → ⊥ = λ q. before_irreflexive h d (rw q at p) in
+      before_irreflexive h c (before_trans h c d c (first.before d choice joining other) p)
+
   pub first_alone : (c d : List ℕ) → First h c → First h d → c ≡ d
   first_alone c d f g =
       ⊎_elim (λ (q : c ≡ d). q)
-      (⊎_elim
-      (λ (p : goes_before h c d ≡ true).
-      let ne : d ≡ c → ⊥ = λ q. before_irreflexive h c (rw q at p) in
-      absurd (before_irreflexive h c (before_trans h c d c p (g.before c f.choice f.joining ne))))
-      (λ (p : goes_before h d c ≡ true).
-      let ne : c ≡ d → ⊥ = λ q. before_irreflexive h d (rw q at p) in
-      absurd (before_irreflexive h d (before_trans h d c d p (f.before d g.choice g.joining ne)))))
+      (⊎_elim (λ (p : goes_before h c d ≡ true). absurd (none_before d c g f.choice f.joining p))
+      (λ (p : goes_before h d c ≡ true). absurd (none_before c d f g.choice g.joining p)))
+      (before_total h c d)
+
+  -- and none costs less
+  pub first_least : (c d : List ℕ) → First h c → is_choice h d ≡ true → joins h d ≡ true → total h c ≤ total h d
+  first_least c d first choice joining =
+      ⊎_elim (λ (q : c ≡ d). omega (arith, ap (total h) q))
+      (⊎_elim (λ (p : goes_before h c d ≡ true). before_most h c d p)
+      (λ (p : goes_before h d c ≡ true). absurd (none_before c d first choice joining p)))
       (before_total h c d)

@@ -1,0 +1,71 @@
+-- A row's price moves the total by no more than itself, and the plan only where it has to: each plan is held against the other one in both halls. Assumes nothing.
+use mathlib.Core.Path.{◌≡◌, sym, ap}
+use mathlib.Core.Bool.{Bool, true, false, cond}
+use mathlib.Core.List.{List}
+use mathlib.Core.Logic.{⊎_elim}
+use Prim.Native.Nat.{ℕ, ◌+◌, ◌≤◌}
+use native.Mathlib.Omega.{arith}
+use Rattle.hall.specs.Hall.{Hall, is_choice, joins, member}
+use Rattle.hall.specs.File.{hall_in}
+use Rattle.hall.specs.Plan.{total, goes_before, First}
+use Rattle.dicuts.specs.Shores.{Ranged}
+use Rattle.joining.proofs.Accepted.{accepted_ranged}
+use Rattle.order.proofs.Before.{before_total}
+use Rattle.order.proofs.First.{none_before, first_least}
+use Rattle.quotes.specs.Quote.{Dearer, QuoteMoves}
+use Rattle.quotes.proofs.Alike.{alike_back, choice_alike, joins_alike}
+use Rattle.quotes.proofs.Dearer.{before_kept, dearer_alike, total_dearer}
+
+module _ (h g : Hall) (i d : ℕ) (dearer : Dearer h g i d) (c e : List ℕ) (ranged_h : Ranged h) (ranged_g : Ranged g) (first_h : First h c) (first_g : First g e) where
+  chosen_g : is_choice g c ≡ true
+  chosen_g = choice_alike h g (dearer_alike h g i d dearer) c first_h.choice
+
+  joins_g : joins g c ≡ true
+  joins_g = joins_alike h g (dearer_alike h g i d dearer) ranged_h ranged_g c first_h.joining
+
+  chosen_h : is_choice h e ≡ true
+  chosen_h = choice_alike g h (alike_back h g (dearer_alike h g i d dearer)) e first_g.choice
+
+  joins_h : joins h e ≡ true
+  joins_h = joins_alike g h (alike_back h g (dearer_alike h g i d dearer)) ranged_g ranged_h e first_g.joining
+
+  more_c : total g c ≡ total h c + cond (member i c) d 0
+  more_c = total_dearer h g i d dearer c first_h.choice
+
+  more_e : total g e ≡ total h e + cond (member i e) d 0
+  more_e = total_dearer h g i d dearer e chosen_h
+
+  most : (b : Bool) → cond b d 0 ≤ d
+  most true = omega arith
+  most false = omega arith
+
+  pub totals : (total h c ≤ total g e) × (total g e ≤ total h c + d)
+  totals =
+      let below = first_least h c e first_h chosen_h joins_h in
+      let above = first_least g e c first_g chosen_g joins_g in (omega (arith, below, more_e), omega (arith, above, more_c, most (member i c)))
+
+  -- where the cheaper hall's plan grows no more than the dearer's, they are the same
+  same_plan : total g c + total h e ≤ total g e + total h c → c ≡ e
+  same_plan less =
+      ⊎_elim (λ (q : c ≡ e). q)
+      (⊎_elim (λ (p : goes_before h c e ≡ true). absurd (none_before g e c first_g chosen_g joins_g (before_kept h g c e less p)))
+      (λ (p : goes_before h e c ≡ true). absurd (none_before h c e first_h chosen_h joins_h p)))
+      (before_total h c e)
+
+  pub left_alone : member i c ≡ false → e ≡ c
+  left_alone out =
+      let same : total g c ≡ total h c + 0 = rw out at more_c in sym (same_plan (omega (arith, more_e)))
+
+  pub falls : member i e ≡ true → (c ≡ e) × (total h c + d ≡ total g e)
+  falls in_it =
+      let grown : total g e ≡ total h e + d = rw in_it at more_e in
+      let same = same_plan (omega (arith, more_c, most (member i c))) in (same, omega (arith, grown, ap (total h) same))
+
+pub quote_moves : QuoteMoves
+unfolding QuoteMoves
+quote_moves bs cs i d c e acc_b acc_c dearer first_h first_g =
+    let h = hall_in bs in
+    let g = hall_in cs in
+    let rh = accepted_ranged bs acc_b in
+    let rg = accepted_ranged cs acc_c in
+    (totals h g i d dearer c e rh rg first_h first_g, left_alone h g i d dearer c e rh rg first_h first_g, falls h g i d dearer c e rh rg first_h first_g)

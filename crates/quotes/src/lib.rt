@@ -1,0 +1,2 @@
+// How far one row's price can move the plan and its total. No code.
+#![tactic(auto)]
