@@ -114,7 +114,7 @@ pub fn first_plan(planner: &Planner, file: &[u8]) -> Outcome {
 
 /// Both calls for one file. Together their replies claim a plan; gives the hall, the choice and its total, or nothing where
 /// both calls have to refuse the file.
-fn planned(planner: &Planner, file: &[u8]) -> Result<Option<(Hall, Vec<u32>, u64)>, String> {
+pub fn planned(planner: &Planner, file: &[u8]) -> Result<Option<(Hall, Vec<u32>, u64)>, String> {
     let mut lent = Lists::marked(257, 125, 126, 64);
     let untouched = lent.clone();
     let of_rows = (planner.rows)(file, &mut lent);

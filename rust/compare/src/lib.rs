@@ -1,9 +1,11 @@
 //! The planners that there are, behind the same six calls, and what each call must answer.
 
 mod expect;
+mod quotes;
 mod routes;
 
 pub use expect::{calls_with_a_choice, first_plan, plan, short_lists, small_plan};
+pub use quotes::quotes;
 pub use routes::every_route;
 
 /// Number, row, outcome, set.

@@ -1,7 +1,7 @@
 //! Tries each planner on halls and files from fixed seeds and compares every answer with the oracle's.
 //! `compare [TIMES]` tries so many times as many random halls.
 
-use compare::{calls_with_a_choice, every_route, first_plan, plan, planners, short_lists, small_plan, Planner};
+use compare::{calls_with_a_choice, every_route, first_plan, plan, planners, quotes, short_lists, small_plan, Planner};
 use halls::{
     all_halls, damaged, fixed_hall, fixed_halls, full_hall, large_fixed_halls, looped_hall, random_files, random_hall,
     sized_files, starred, Kind, KINDS,
@@ -73,6 +73,16 @@ fn suites(times: u64) -> Vec<Suite> {
         let files = (0..count * times).map(move |seed| random_hall(n, rows, seed));
         suites.push(suite(format!("every route: up to {n} junctions and {rows} rows"), files, every_route));
     }
+    let drawn = starred().into_iter().chain(fixed_halls()).chain(large_fixed_halls()).chain(sized_files());
+    suites.push(suite("one quote: halls drawn by hand, halls at the limits", drawn, quotes));
+    for (n, rows, prices) in [(2, 3, 3), (3, 3, 2)] {
+        let what = format!("one quote: all halls, {n} junctions, {rows} rows");
+        suites.push(suite(what, all_halls(n, rows, prices), quotes));
+    }
+    for (n, rows, count) in [(6, 10, 10_000), (16, 48, 1_000), (64, 256, 100)] {
+        let files = (0..count * times).map(move |seed| random_hall(n, rows, seed));
+        suites.push(suite(format!("one quote: up to {n} junctions and {rows} rows"), files, quotes));
+    }
     for (n, rows, count) in [(6, 10, 40_000), (8, 16, 1_000), (8, 32, 1_000), (12, 30, 1_000)] {
         let files = (0..count * times).map(move |seed| random_hall(n, rows, seed));
         suites.push(suite(format!("random halls up to {n} junctions and {rows} rows"), files, ALL_OF_SMALL));
@@ -90,6 +100,7 @@ fn suites(times: u64) -> Vec<Suite> {
     for (what, draw) in drawn {
         suites.push(suite(format!("{what}, 8 junctions"), of_kinds(draw, 8, 12 * times), ALL_OF_SMALL));
         suites.push(suite(format!("every route: {what}, 64 junctions"), of_kinds(draw, 64, times), every_route));
+        suites.push(suite(format!("one quote: {what}, 64 junctions"), of_kinds(draw, 64, 12 * times), quotes));
         for n in [16, 32, 64] {
             suites.push(suite(format!("{what}, {n} junctions"), of_kinds(draw, n, 12 * times), ALL));
             suites.push(suite(

@@ -7,6 +7,7 @@ mod figure;
 mod first;
 mod hall;
 mod list;
+mod quote;
 mod route;
 mod small;
 
@@ -15,6 +16,7 @@ pub use figure::{over_figure, sums, Screened};
 pub use first::unshown;
 pub use hall::{hall_in, unfixed, Hall};
 pub use list::{judge, printed, words, Listed};
+pub use quote::{misquoted, quoted, requoted, Plan, Quoted};
 pub use reader::{Refusal, Row};
 pub use route::{first_routes, route, route_by_trying, Routed};
 pub use small::{first_choice, has_fixed_cut, neighbourhood_by_shores, SMALL};
