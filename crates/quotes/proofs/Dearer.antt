@@ -8,58 +8,41 @@ use lib.Dec.{eqb}
 use borrow.Author.Tests.{eqb-true, eqb-false}
 use Rattle.laws.proofs.Booleans.{by_bool}
 use Rattle.hall.specs.Hall.{Hall, Row, row, count, ascends_from, is_choice, member}
-use Rattle.hall.specs.Plan.{total, goes_before}
+use Rattle.hall.specs.Plan.{total}
 use Rattle.dicuts.proofs.Choices.{ascends_low, ascends_high, ascends_rest, ascends_skips, choice_ascends}
-use Rattle.order.specs.Precedes.{Precedes, by_total, by_length, by_dictionary}
-use Rattle.order.proofs.Before.{before_of, before_why}
 use Rattle.quotes.specs.Alike.{Alike}
 use Rattle.quotes.specs.Quote.{Dearer}
 
-module _ (h g : Hall) where
-  -- what costs no more goes before, if it does at the same total
-  at_most : (c e : List ℕ) → total g c ≤ total g e → (total g c ≡ total g e → Precedes g c e) → Precedes g c e
-  at_most c e less same =
-      by_bool (eqb (total g c) (total g e)) (λ t. same (eqb-true (total g c) (total g e) t)) (λ t. by_total (omega (arith, eqb-false (total g c) (total g e) t)))
+module _ (h g : Hall) (i d : ℕ) (dearer : Dearer h g i d) where
+  same_at : {A : Type 0} (f : Row → A) → f (row g i) ≡ f (row h i) → (k : ℕ) → 1 ≤ k → k ≤ count h → f (row g k) ≡ f (row h k)
+  same_at f here k l m =
+      by_bool (eqb k i) (λ e. let same : k ≡ i = eqb-true k i e in rw same here) (λ e. ap f (dearer.others k l m (eqb-false k i e)))
 
-  precedes_kept : (c e : List ℕ) → total g c + total h e ≤ total g e + total h c → Precedes h c e → Precedes g c e
-  precedes_kept c e less (by_total l) = by_total (omega arith)
-  precedes_kept c e less (by_length q l) = at_most c e (omega arith) (λ r. by_length r l)
-  precedes_kept c e less (by_dictionary q l t) = at_most c e (omega arith) (λ r. by_dictionary r l t)
+  pub dearer_alike : Alike h g
+  dearer_alike = record {
+    junctions = dearer.junctions;
+    rows = dearer.rows;
+    from_same = same_at (λ r. r.from) dearer.from_same;
+    to_same = same_at (λ r. r.to) dearer.to_same;
+    fixed_same = same_at (λ r. r.fixed) (dearer.free.1 ∙ sym dearer.free.0);
+  }
 
-  -- where one choice grows no more than another from h to g, it goes before that one in g too
-  pub before_kept : (c e : List ℕ) → total g c + total h e ≤ total g e + total h c → goes_before h c e ≡ true → goes_before g c e ≡ true
-  before_kept c e less t = before_of g c e (precedes_kept c e less (before_why h c e t))
+  total_from : (a : ℕ) (c : List ℕ) → 1 ≤ a → ascends_from a (count h) c ≡ true → total g c ≡ total h c + cond (member i c) d 0
+  unfolding total member
+  total_from a [] one t = refl
+  total_from a (x ∷ xs) one t =
+      let low = ascends_low a (count h) x xs t in
+      let rest = ascends_rest a (count h) x xs t in
+      let more = total_from (suc x) xs (omega arith) rest in
+      by_bool (eqb x i)
+      (λ e.
+      let same : x ≡ i = eqb-true x i e in
+      let gone : member i xs ≡ false = ascends_skips (suc x) (count h) xs i rest (omega arith) in
+      rw e (omega (arith, (rw gone at more), ap (λ (k : ℕ). (row g k).price) same, ap (λ (k : ℕ). (row h k).price) same, dearer.more)))
+      (λ e.
+      let here = dearer.others x (omega arith) (ascends_high a (count h) x xs t) (eqb-false x i e) in
+      rw e (omega (arith, more, ap (λ (r : Row). r.price) here)))
 
-  module _ (i d : ℕ) (dearer : Dearer h g i d) where
-    same_at : {A : Type 0} (f : Row → A) → f (row g i) ≡ f (row h i) → (k : ℕ) → 1 ≤ k → k ≤ count h → f (row g k) ≡ f (row h k)
-    same_at f here k l m =
-        by_bool (eqb k i) (λ e. let same : k ≡ i = eqb-true k i e in rw same here) (λ e. ap f (dearer.others k l m (eqb-false k i e)))
-
-    pub dearer_alike : Alike h g
-    dearer_alike = record {
-      junctions = dearer.junctions;
-      rows = dearer.rows;
-      from_same = same_at (λ r. r.from) dearer.from_same;
-      to_same = same_at (λ r. r.to) dearer.to_same;
-      fixed_same = same_at (λ r. r.fixed) (dearer.free.1 ∙ sym dearer.free.0);
-    }
-
-    total_from : (a : ℕ) (c : List ℕ) → 1 ≤ a → ascends_from a (count h) c ≡ true → total g c ≡ total h c + cond (member i c) d 0
-    unfolding total member
-    total_from a [] one t = refl
-    total_from a (x ∷ xs) one t =
-        let low = ascends_low a (count h) x xs t in
-        let rest = ascends_rest a (count h) x xs t in
-        let more = total_from (suc x) xs (omega arith) rest in
-        by_bool (eqb x i)
-        (λ e.
-        let same : x ≡ i = eqb-true x i e in
-        let gone : member i xs ≡ false = ascends_skips (suc x) (count h) xs i rest (omega arith) in
-        rw e (omega (arith, (rw gone at more), ap (λ (k : ℕ). (row g k).price) same, ap (λ (k : ℕ). (row h k).price) same, dearer.more)))
-        (λ e.
-        let here = dearer.others x (omega arith) (ascends_high a (count h) x xs t) (eqb-false x i e) in
-        rw e (omega (arith, more, ap (λ (r : Row). r.price) here)))
-
-    -- a choice with the row costs d more, one without it the same
-    pub total_dearer : (c : List ℕ) → is_choice h c ≡ true → total g c ≡ total h c + cond (member i c) d 0
-    total_dearer c t = total_from 1 c (omega arith) (choice_ascends h c t)
+  -- a choice with the row costs d more, one without it the same
+  pub total_dearer : (c : List ℕ) → is_choice h c ≡ true → total g c ≡ total h c + cond (member i c) d 0
+  total_dearer c t = total_from 1 c (omega arith) (choice_ascends h c t)

@@ -1,3 +1,4 @@
 pub mod Alike
+pub mod Kept
 pub mod Dearer
 pub mod Promise

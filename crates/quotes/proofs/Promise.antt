@@ -14,7 +14,8 @@ use Rattle.order.proofs.Before.{before_total}
 use Rattle.order.proofs.First.{none_before, first_least}
 use Rattle.quotes.specs.Quote.{Dearer, QuoteMoves}
 use Rattle.quotes.proofs.Alike.{alike_back, choice_alike, joins_alike}
-use Rattle.quotes.proofs.Dearer.{before_kept, dearer_alike, total_dearer}
+use Rattle.quotes.proofs.Kept.{before_kept}
+use Rattle.quotes.proofs.Dearer.{dearer_alike, total_dearer}
 
 module _ (h g : Hall) (i d : ℕ) (dearer : Dearer h g i d) (c e : List ℕ) (ranged_h : Ranged h) (ranged_g : Ranged g) (first_h : First h c) (first_g : First g e) where
   chosen_g : is_choice g c ≡ true

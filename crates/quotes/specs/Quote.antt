@@ -17,8 +17,8 @@ pub record Dearer (h g : Hall) (i d : ℕ) : Type 0 where
   pub free : ((row h i).fixed ≡ false) × ((row g i).fixed ≡ false)
   pub more : (row g i).price ≡ (row h i).price + d
 
--- the dearer hall's total is no less, and at most d more; a row that is not in the cheaper hall's plan leaves it as it is, and so does one
--- that is in the dearer hall's plan, where the total is exactly d more
+-- with the price the total grows by at most d and never falls; a row that is not in the cheaper hall's plan does not move the plan, and one that is
+-- in the dearer hall's plan does not either, but the total grows by exactly d
 unfoldable pub QuoteMoves : Type 0
 QuoteMoves =
     (bs cs : List ℕ) (i d : ℕ) (c e : List ℕ) → accepted bs ≡ true → accepted cs ≡ true → Dearer (hall_in bs) (hall_in cs) i d →
