@@ -3,15 +3,11 @@ use mathlib.Core.Path.{◌≡◌, sym, ap, ◌∙◌}
 use mathlib.Core.Bool.{true}
 use mathlib.Core.List.{List}
 use Prim.Native.Nat.{ℕ}
-use native.Mathlib.Omega.{arith}
-use lib.Dec.{ltb}
-use borrow.Author.Tests.{ltb-true, ltb-false}
-use Rattle.laws.proofs.Booleans.{by_bool}
 use Rattle.hall.specs.Hall.{Hall, row, count, member, is_none, joins}
 use Rattle.hall.specs.File.{hall_in}
-use Rattle.hall.specs.Plan.{total, goes_before}
-use Rattle.order.specs.Precedes.{by_total, by_length}
-use Rattle.order.proofs.Before.{before_of}
+use Rattle.hall.specs.Plan.{goes_before}
+use Rattle.order.specs.Precedes.{by_length}
+use Rattle.order.proofs.Before.{before_of, cheaper_or_tied}
 use Rattle.order.proofs.First.{none_before}
 use Rattle.dicuts.proofs.Choices.{ascends_members, choice_ascends}
 use Rattle.loops.specs.Loops.{left_out, LoopsClosed, LoopsIdle, LeftOutChoice}
@@ -22,8 +18,7 @@ use Rattle.loops.proofs.LeftOut.{left_out-is_choice, left_out_shorter, left_out-
 left_out_before : (h : Hall) (c : List ℕ) (i : ℕ) → member i c ≡ true → goes_before h (left_out i c) c ≡ true
 left_out_before h c i in_it =
     let rest = left_out i c in
-    by_bool (ltb (total h rest) (total h c)) (λ e. before_of h rest c (by_total (ltb-true (total h rest) (total h c) e)))
-    (λ e. before_of h rest c (by_length (omega (arith, ltb-false (total h rest) (total h c) e, left_out-total i h c)) (left_out_shorter i c in_it)))
+    before_of h rest c (cheaper_or_tied h rest c (left_out-total i h c) (λ e. by_length e (left_out_shorter i c in_it)))
 
 pub left_out_choice : LeftOutChoice
 unfolding LeftOutChoice

@@ -7,9 +7,9 @@ use Prim.Native.Nat.{ℕ, ◌<◌, ◌≤◌}
 use native.Mathlib.Omega.{arith}
 use lib.Dec.{ltb, eqb}
 use lib.ListN.{length}
-use borrow.Author.Tests.{ltb-true, lt-ltb, eqb-true, eq-eqb}
+use borrow.Author.Tests.{ltb-true, lt-ltb, eqb-true, eqb-false, eq-eqb}
 use Rattle.laws.proofs.Numbers.{compare-numbers}
-use Rattle.laws.proofs.Booleans.{and_l, and_r, and_i, or_cases, or_l, or_r}
+use Rattle.laws.proofs.Booleans.{by_bool, and_l, and_r, and_i, or_cases, or_l, or_r}
 use Rattle.hall.specs.Hall.{Hall}
 use Rattle.hall.specs.Plan.{total, earlier, goes_before}
 use Rattle.order.specs.Precedes.{Precedes, by_total, by_length, by_dictionary}
@@ -39,6 +39,11 @@ module _ (h : Hall) where
   precedes_most c d (by_total l) = omega arith
   precedes_most c d (by_length e l) = omega arith
   precedes_most c d (by_dictionary e l t) = omega arith
+
+  -- what costs no more precedes, if it does at the same total
+  pub cheaper_or_tied : (c d : List ℕ) → total h c ≤ total h d → (total h c ≡ total h d → Precedes h c d) → Precedes h c d
+  cheaper_or_tied c d most tied =
+      by_bool (eqb (total h c) (total h d)) (λ e. tied (eqb-true (total h c) (total h d) e)) (λ e. by_total (omega (arith, eqb-false (total h c) (total h d) e)))
 
   -- what goes before costs no more
   pub before_most : (c d : List ℕ) → goes_before h c d ≡ true → total h c ≤ total h d

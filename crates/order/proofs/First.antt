@@ -1,4 +1,4 @@
--- Where some choice joins, one joining choice goes before every other, and only one does. Assumes nothing.
+-- Where some choice joins, one joining choice goes before every other, and only one does; none goes before it, and none costs less. Assumes nothing.
 use mathlib.Core.Path.{◌≡◌, ap}
 use mathlib.Core.Bool.{Bool, true, ◌&&◌}
 use mathlib.Core.List.{List}
@@ -58,7 +58,7 @@ module _ (h : Hall) where
       (λ (p : goes_before h d c ≡ true). absurd (none_before c d f g.choice g.joining p)))
       (before_total h c d)
 
-  -- and none costs less
+  -- no joining choice costs less than the first
   pub first_least : (c d : List ℕ) → First h c → is_choice h d ≡ true → joins h d ≡ true → total h c ≤ total h d
   first_least c d first choice joining =
       ⊎_elim (λ (q : c ≡ d). omega (arith, ap (total h) q))

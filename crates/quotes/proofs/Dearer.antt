@@ -46,3 +46,8 @@ module _ (h g : Hall) (i d : ℕ) (dearer : Dearer h g i d) where
   -- a choice with the row costs d more, one without it the same
   pub total_dearer : (c : List ℕ) → is_choice h c ≡ true → total g c ≡ total h c + cond (member i c) d 0
   total_dearer c t = total_from 1 c (omega arith) (choice_ascends h c t)
+
+  pub total_most : (c : List ℕ) → is_choice h c ≡ true → total g c ≤ total h c + d
+  total_most c t =
+      let grown = total_dearer c t in
+      by_bool (member i c) (λ e. omega (arith, (rw e at grown))) (λ e. omega (arith, (rw e at grown)))

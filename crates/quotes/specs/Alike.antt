@@ -2,7 +2,7 @@
 use Rattle.std.specs.Prelude.{◌≡◌, ℕ, ◌≤◌}
 use Rattle.hall.specs.Hall.{Hall, row, count}
 
--- ALIKE: the same junctions and rows; each row has the same ends, and is fixed in both or in neither
+-- ALIKE: as many junctions and rows; each row has the same ends, and is fixed in both or in neither
 pub record Alike (h g : Hall) : Type 0 where
   pub junctions : g.n ≡ h.n
   pub rows : count g ≡ count h

@@ -1,2 +1,2 @@
-// How far one row's price can move the plan and its total. No code.
+// How far a change of one row's price can move the plan and its total. No code.
 #![tactic(auto)]

@@ -8,7 +8,7 @@ pub type Quoted = (u64, Plan);
 
 const DEAREST: u64 = 1_000_000;
 
-/// The same file with another price for a row.
+/// An accepted hall's file with another price for a row.
 pub fn requoted(file: &[u8], row: u32, price: u64) -> Vec<u8> {
     let number = |at: usize| u32::from_le_bytes(file[at..at + 4].try_into().expect("four bytes")) as usize;
     let block = |at: usize| (number(at)..number(at) + number(at + 4)).step_by(8);
@@ -19,8 +19,8 @@ pub fn requoted(file: &[u8], row: u32, price: u64) -> Vec<u8> {
     file
 }
 
-/// Plans with a row at price 0, at some prices, around the one that it is worth, and at the largest. A row is worth what the
-/// total grows by until the plan does without it.
+/// The plans with a row at price 0, at the given prices, just below, at and above what the row is worth, and at the largest
+/// price. A row is worth what the total grows by from the first of these to the last: below that price the plan keeps it.
 pub fn quoted(
     file: &[u8],
     row: u32,
@@ -37,22 +37,21 @@ pub fn quoted(
     [Ok(free)].into_iter().chain(between.into_iter().map(at)).chain([Ok(dear)]).collect()
 }
 
-/// All that is wrong with any two plans at ascending prices of a row.
+/// All that is wrong between any two of the plans at ascending prices of a row.
 pub fn misquoted(row: u32, plans: &[Quoted]) -> Vec<String> {
     let pairs =
-        plans.iter().enumerate().flat_map(|(k, cheaper)| plans[k..].iter().map(move |dearer| (cheaper, dearer)));
+        plans.iter().enumerate().flat_map(|(k, cheaper)| plans[k + 1..].iter().map(move |dearer| (cheaper, dearer)));
     pairs.flat_map(|(cheaper, dearer)| two_misquoted(row, cheaper, dearer)).collect()
 }
 
 fn two_misquoted(row: u32, (low, cheaper): &Quoted, (high, dearer): &Quoted) -> Vec<String> {
     let more = high - low;
-    let same = cheaper.0 == dearer.0;
     let (left_out, kept) = (!cheaper.0.contains(&row), dearer.0.contains(&row));
     let tests = [
         (dearer.1 >= cheaper.1, "the total falls"),
         (dearer.1 <= cheaper.1 + more, "the total grows by more"),
-        (!left_out || same, "a row that was not in the plan moves it"),
-        (!kept || same, "a row that stays in the plan moves it"),
+        (!left_out || cheaper == dearer, "a row that was not in the plan moves it"),
+        (!kept || cheaper.0 == dearer.0, "a row that stays in the plan moves it"),
         (!kept || dearer.1 == cheaper.1 + more, "a row that stays in the plan moves the total by something else"),
     ];
     let said = |fault| format!("row {row} from {low} to {high}: {fault}");
