@@ -25,17 +25,12 @@ module _ (h g : Hall) (i d : ℕ) (dearer : Dearer h g i d) (c e : List ℕ) (ra
   back : Alike g h
   back = alike_back h g alike
 
-  chosen_g : is_choice g c ≡ true
-  chosen_g = choice_alike h g alike c first_h.choice
+  -- each plan is a joining choice of the other hall too
+  in_g : (is_choice g c ≡ true) × (joins g c ≡ true)
+  in_g = (choice_alike h g alike c first_h.choice, joins_alike h g alike ranged_h ranged_g c first_h.joining)
 
-  joins_g : joins g c ≡ true
-  joins_g = joins_alike h g alike ranged_h ranged_g c first_h.joining
-
-  chosen_h : is_choice h e ≡ true
-  chosen_h = choice_alike g h back e first_g.choice
-
-  joins_h : joins h e ≡ true
-  joins_h = joins_alike g h back ranged_g ranged_h e first_g.joining
+  in_h : (is_choice h e ≡ true) × (joins h e ≡ true)
+  in_h = (choice_alike g h back e first_g.choice, joins_alike g h back ranged_g ranged_h e first_g.joining)
 
   more_c : total g c ≡ total h c + cond (member i c) d 0
   more_c = total_dearer h g i d dearer c first_h.choice
@@ -44,19 +39,19 @@ module _ (h g : Hall) (i d : ℕ) (dearer : Dearer h g i d) (c e : List ℕ) (ra
   most_c = total_most h g i d dearer c first_h.choice
 
   more_e : total g e ≡ total h e + cond (member i e) d 0
-  more_e = total_dearer h g i d dearer e chosen_h
+  more_e = total_dearer h g i d dearer e in_h.0
 
   totals : (total h c ≤ total g e) × (total g e ≤ total h c + d)
   totals =
-      let below = first_least h c e first_h chosen_h joins_h in
-      let above = first_least g e c first_g chosen_g joins_g in (omega (arith, below, more_e), omega (arith, above, most_c))
+      let below = first_least h c e first_h in_h.0 in_h.1 in
+      let above = first_least g e c first_g in_g.0 in_g.1 in (omega (arith, below, more_e), omega (arith, above, most_c))
 
   -- where the cheaper hall's plan grows no more than the dearer's, they are the same
   same_plan : total g c + total h e ≤ total g e + total h c → c ≡ e
   same_plan less =
       ⊎_elim (λ (q : c ≡ e). q)
-      (⊎_elim (λ (p : goes_before h c e ≡ true). absurd (none_before g e c first_g chosen_g joins_g (before_kept h g c e less p)))
-      (λ (p : goes_before h e c ≡ true). absurd (none_before h c e first_h chosen_h joins_h p)))
+      (⊎_elim (λ (p : goes_before h c e ≡ true). absurd (none_before g e c first_g in_g.0 in_g.1 (before_kept h g c e less p)))
+      (λ (p : goes_before h e c ≡ true). absurd (none_before h c e first_h in_h.0 in_h.1 p)))
       (before_total h c e)
 
   left_alone : member i c ≡ false → e ≡ c

@@ -6,7 +6,7 @@ use refusals::Kind;
 use smallhalls::{Small, file};
 use tries::{Lists, Tried};
 
-#[derive(Clone, Copy, PartialEq, Eq, Debug)]
+#[derive(Clone, Copy)]
 pub enum Outcome {
     Same,
     Unjoined,

@@ -5,7 +5,7 @@ use crate::walks::Asked;
 use refusals::Kind;
 use routing::Way;
 
-#[derive(Clone, Copy, PartialEq, Eq, Debug)]
+#[derive(Clone, Copy)]
 pub enum Outcome {
     Route,
     Misses,
