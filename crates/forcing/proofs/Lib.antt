@@ -1,0 +1,3 @@
+pub mod Recosted
+pub mod Least
+pub mod Promise

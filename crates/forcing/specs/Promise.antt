@@ -1,0 +1,28 @@
+-- What is promised of a row's figures. Each statement is a type; proofs/Promise.antt proves it. Assumes nothing.
+use Rattle.std.specs.Prelude.{◌≡◌, true, List, ℕ, ◌+◌, ◌≤◌, min}
+use Rattle.std.proofs.Math.Option.{Option, none, some}
+use Rattle.hall.specs.Hall.{row, count, enters, is_cut, entering, unfixed, member}
+use Rattle.hall.specs.File.{hall_in}
+use Rattle.hall.specs.Plan.{First, total}
+use Rattle.joining.specs.Promise.{accepted}
+use Rattle.forcing.specs.Figures.{FiguresOf, totals}
+
+-- the smaller of both figures, or the only one
+unfoldable pub smaller : (a : ℕ) → Option ℕ → ℕ
+smaller a none = a
+smaller a (some b) = min a b
+
+-- the smaller figure, or the only one, is the plan's total; the first equals it for an opened row; a loop's first is the total and its price
+unfoldable pub FiguresAndPlan : Type 0
+FiguresAndPlan =
+    (bs c : List ℕ) (i a : ℕ) (b : Option ℕ) → accepted bs ≡ true → First (hall_in bs) c → 1 ≤ i → i ≤ count (hall_in bs) →
+    FiguresOf (hall_in bs) i (totals a b) →
+    (smaller a b ≡ total (hall_in bs) c) × (member i c ≡ true → a ≡ total (hall_in bs) c)
+    × ((row (hall_in bs) i).from ≡ (row (hall_in bs) i).to → a ≡ total (hall_in bs) c + (row (hall_in bs) i).price)
+
+-- there is no total without a row exactly if some directed cut has it as its only row that is not fixed
+unfoldable pub NoneExactly : Type 0
+NoneExactly =
+    (bs : List ℕ) (i a : ℕ) (b : Option ℕ) → accepted bs ≡ true → 1 ≤ i → i ≤ count (hall_in bs) → FiguresOf (hall_in bs) i (totals a b) →
+    (b ≡ none → (s : ℕ) × (is_cut (hall_in bs) s ≡ true) × (enters s (row (hall_in bs) i) ≡ true) × (entering (hall_in bs) s (unfixed (hall_in bs)) ≡ 1))
+    × ((s : ℕ) → is_cut (hall_in bs) s ≡ true → enters s (row (hall_in bs) i) ≡ true → entering (hall_in bs) s (unfixed (hall_in bs)) ≡ 1 → b ≡ none)
