@@ -13,9 +13,10 @@ ghost use Rattle.order.specs.Ranked.{ranked, Plannable};
 ghost use Rattle.columns.specs.Columns.{flagged, Neighbourhoods};
 ghost use Rattle.columns.specs.Lanes.{LanesOf};
 ghost use Rattle.repair.specs.Repairs.{RepairStart};
-ghost use Rattle.plan.specs.Ready.{Modest, Ready, Cheapest};
+ghost use Rattle.plan.specs.Ready.{Modest, Ready, Cheapest, Accepted, Least};
 
 use columns::{Costs, Lanes};
+use hallfile::HallRecord;
 use repair::State;
 
 // From rows that join to a choice of least cost, with its potential and its neighbourhoods.
@@ -39,4 +40,14 @@ pub fn first_choice(lanes: &Lanes, costs: &Costs, rows: [bool; 256]) -> [bool; 2
 {
     let state = cheapest(lanes, costs, rows);
     first::decide_all(lanes, costs, state)
+}
+
+// A choice of least total of an accepted hall, with its potential and its neighbourhoods.
+pub fn least(hall: &HallRecord) -> State
+    requires { (h : Hall) × Accepted h hall.now }
+    ensures { (h : Hall) → Accepted h hall.now → Least h result }
+{
+    let charged = ledger::costs::charges(hall.lanes.count, &hall.prices, &hall.fixed);
+    let unfixed = choice::unflagged(&hall.fixed);
+    cheapest(&hall.lanes, &charged, unfixed)
 }

@@ -20,16 +20,6 @@ pub struct PlannedCuts {
     pub levels: u32,
 }
 
-// A choice of least total of an accepted hall, with its potential and its neighbourhoods.
-pub fn least(hall: &HallRecord) -> State
-    requires { (h : Hall) × Accepted h hall.now }
-    ensures { (h : Hall) → Accepted h hall.now → Least h result }
-{
-    let charged = ledger::costs::charges(hall.lanes.count, &hall.prices, &hall.fixed);
-    let unfixed = choice::unflagged(&hall.fixed);
-    plan::cheapest(&hall.lanes, &charged, unfixed)
-}
-
 // The cuts of a choice of least total, which stand beside the first choice too, and the levels, from the front of lists that are long
 // enough. Returns how many cuts there are.
 pub fn list_cuts(
@@ -72,7 +62,7 @@ pub fn plan_pairs(
         return Err(Kind::ListShort);
     }
     let hall = hallfile::read_hall(file)?;
-    let least = least(&hall);
+    let least = plan::least(&hall);
     let cuts = list_cuts(&hall, &least, shores, weights, levels);
     Ok(PlannedCuts {
         cuts: cuts as u32,

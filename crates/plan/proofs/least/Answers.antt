@@ -1,6 +1,6 @@
--- `planpairs::least` meets its contract: what is cheapest at the charges is of least total. Assumes nothing.
+-- `plan::least` meets its contract: what is cheapest at the charges is of least total. Assumes nothing.
 use Rattle.plan.proofs.Prices.{unfixed_ready, charge_modest, charge_least}
-use Rattle.planpairs.proofs.least.Goals as goal
+use Rattle.plan.proofs.least.Goals as goal
 
 pub charges-charged-requires : goal.charges-charged-requires
 charges-charged-requires c = c.args.hall.now.lanes.ends.few

@@ -1,3 +1,0 @@
-pub mod Recosted
-pub mod Least
-pub mod Promise
