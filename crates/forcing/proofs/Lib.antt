@@ -1,0 +1,4 @@
+pub mod Recosted
+pub mod Least
+pub mod OneRow
+pub mod Promise
