@@ -1,3 +1,2 @@
-pub mod Recosted
-pub mod Least
+pub mod OneRow
 pub mod Promise
