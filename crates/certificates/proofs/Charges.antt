@@ -2,11 +2,11 @@
 use mathlib.Core.Path.{◌≡◌, sym, ◌∙◌}
 use mathlib.Core.Bool.{Bool, true, cond}
 use mathlib.Core.List.{List}
-use Prim.Native.Nat.{ℕ, suc, ◌+◌, ◌-◌, ◌*◌, ◌≤◌}
+use Prim.Native.Nat.{ℕ, zero, suc, ◌+◌, ◌*◌, ◌≤◌}
 use native.Mathlib.Nat.{mul-le-mul_right}
 use native.Mathlib.Omega.{arith}
 use lib.ListN.{length}
-use Rattle.laws.proofs.Booleans.{by_bool}
+use Rattle.laws.proofs.Booleans.{by_bool, cond_true}
 use Rattle.laws.proofs.Finite.{sum-at_least}
 use Rattle.hall.specs.Hall.{Hall, row, count, is_choice, member}
 use Rattle.hall.specs.Plan.{total}
@@ -22,18 +22,19 @@ use Rattle.order.proofs.Ranked.{charge_price, charge-fixed, charge-total, ranked
 use Rattle.choicelists.proofs.Totals.{over_choice, over_listed}
 
 module _ (h : Hall) where
+  -- a set costs no less than one of its rows
+  pub cost_row : (c : ℕ → ℕ) (F : ℕ → Bool) (k : ℕ) → 1 ≤ k → k ≤ count h → F k ≡ true → c k ≤ cost h c F
+  unfolding cost
+  cost_row c F zero low high t = absurd (omega arith)
+  cost_row c F (suc k) low high t =
+      omega (arith, cond_true (F (suc k)) (c (suc k)) 0 t, sum-at_least (count h) (λ j. cond (F (suc j)) (c (suc j)) 0) k (omega arith))
+
   -- a set that is charged no more than any choice may cost has no fixed row
   pub cheap_unfixed : (F : ℕ → Bool) → cost h (charge h) F ≤ 256000000 → NoneFixed h F
-  unfolding cost
   cheap_unfixed F cheap i l u in_it =
-      by_bool (row h i).fixed
-      (λ e.
-      let here : suc (i - 1) ≡ i = omega arith in
-      let paid : cond (F (suc (i - 1))) (charge h (suc (i - 1))) 0 ≡ 256000001 = rw (here, in_it) (charge-fixed h i e) in
-      absurd (omega (arith, paid, cheap, sum-at_least (count h) (λ k. cond (F (suc k)) (charge h (suc k)) 0) (i - 1) (omega arith))))
-      (λ e. e)
+      by_bool (row h i).fixed (λ e. absurd (omega (arith, cheap, cost_row (charge h) F i l u in_it, charge-fixed h i e))) (λ e. e)
 
-  choice_charges : (c : List ℕ) → is_choice h c ≡ true → cost h (charge h) (λ i. member i c) ≡ total h c
+  pub choice_charges : (c : List ℕ) → is_choice h c ≡ true → cost h (charge h) (λ i. member i c) ≡ total h c
   unfolding cost
   choice_charges c choice = sym (over_choice h (charge h) c choice) ∙ charge-total h c choice
 

@@ -17,14 +17,14 @@ use Rattle.potentials.specs.ZeroGraph.{zero_arcs, raised, Raisable}
 use Rattle.potentials.specs.Flip.{Leg, Flip, flipped, Route}
 use Rattle.potentials.specs.Repair.{Repaired}
 use Rattle.potentials.specs.Compare.{Priced, Agree}
-use Rattle.potentials.proofs.Compare.{compare-cost, cheapest}
+use Rattle.potentials.proofs.Compare.{compare-cost}
 use Rattle.potentials.proofs.Priced.{priced_under, raised_priced, flip_priced}
 use Rattle.potentials.proofs.Raise.{closed_raisable, raised_parted, raised_in, raised_out}
 use Rattle.potentials.proofs.Same.{cost_same, cost_rows_same, parted_same, priced_same}
 use Rattle.potentials.proofs.Weights.{put_same}
 use Rattle.order.specs.Ranked.{ranked, Plannable}
 use Rattle.choicelists.proofs.Leads.{leads_ext}
-use Rattle.certificates.proofs.Weighing.{parted_weighs}
+use Rattle.certificates.proofs.Weighing.{parted_weighs, repaired_least}
 use Rattle.deciding.specs.Decided.{Decided, rows_after}
 use Rattle.deciding.specs.Deciding.{opened, Deciding}
 use Rattle.deciding.proofs.Decided.{decided_none, decided_in, decided_out, decided_same}
@@ -47,10 +47,9 @@ module _ (h : Hall) (rg : Ranged h) (c : ℕ → ℕ) where
   pub deciding_start : (p : ℕ → ℕ) (F : ℕ → Bool) → Repaired h c p F → Deciding h c 0 p F
   unfolding Under Paid
   deciding_start p F done =
-      let w = parted_weighs h rg (once F) p done.joining done.parted in
       record {
         joining = done.joining;
-        least = cheapest h F p w.0 w.1 c done.under done.paid;
+        least = repaired_least h rg c p F done;
         decided = decided_none h c F;
         parted = done.parted;
         priced = record { under = λ i l u e. done.under i l u; paid = λ i l u e. done.paid i l u };

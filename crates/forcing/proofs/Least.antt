@@ -1,7 +1,6 @@
 -- A row's figures, from choices of least cost: at the charges, or where the row costs nothing or more than any choice. Assumes nothing.
 use mathlib.Core.Path.{◌≡◌, refl, sym, ap, ap₂, ◌∙◌}
 use mathlib.Core.Bool.{Bool, true, false, ◌||◌, not, cond}
-use mathlib.Core.List.{List}
 use mathlib.Core.Logic.{⊎_elim}
 use mathlib.Core.Option.{none, some}
 use Prim.Native.Nat.{ℕ, zero, suc, ◌+◌, ◌≤◌}
@@ -9,9 +8,8 @@ use native.Mathlib.Omega.{arith}
 use lib.Dec.{eqb}
 use borrow.Author.Tests.{eqb-true, eqb-false}
 use Rattle.laws.proofs.Booleans.{by_bool, clash, or_cases, cond_true, cond_false, cond-zero}
-use Rattle.laws.proofs.Finite.{sum-at_least}
 use Rattle.laws.proofs.Places.{sum_change}
-use Rattle.hall.specs.Hall.{Hall, row, count, is_choice, member}
+use Rattle.hall.specs.Hall.{Hall, row, count, member}
 use Rattle.hall.specs.Plan.{total}
 use Rattle.dicuts.specs.Shores.{Ranged, once, unfixed_row, Joining}
 use Rattle.dicuts.specs.Listed.{listed, NoneFixed}
@@ -21,29 +19,16 @@ use Rattle.joining.proofs.Joins.{joins_joining, listed-joins}
 use Rattle.potentials.specs.Potential.{cost}
 use Rattle.potentials.specs.Flip.{put}
 use Rattle.potentials.specs.Repair.{Repaired}
-use Rattle.potentials.proofs.Compare.{cheapest}
 use Rattle.potentials.proofs.Weights.{put_same, put_other}
 use Rattle.order.specs.Ranked.{charge, Plannable}
-use Rattle.order.proofs.Ranked.{charge-fixed, charge-total}
-use Rattle.choicelists.proofs.Totals.{over_choice}
-use Rattle.certificates.proofs.Charges.{cheap_unfixed, listed_charges, choice_cheap, rest_cheap}
-use Rattle.certificates.proofs.Weighing.{parted_weighs}
+use Rattle.order.proofs.Ranked.{charge-fixed}
+use Rattle.certificates.proofs.Charges.{cost_row, cheap_unfixed, choice_charges, listed_charges, choice_cheap, rest_cheap}
+use Rattle.certificates.proofs.Weighing.{repaired_least}
 use Rattle.forcing.specs.Figures.{LeastTotal}
 use Rattle.forcing.specs.Recosted.{recosted}
 use Rattle.forcing.proofs.Recosted.{recosted_here, recosted_other}
 
 module _ (h : Hall) where
-  -- a set costs no less than one of its rows
-  cost_row : (c : ℕ → ℕ) (F : ℕ → Bool) (k : ℕ) → 1 ≤ k → k ≤ count h → F k ≡ true → c k ≤ cost h c F
-  unfolding cost
-  cost_row c F zero low high t = absurd (omega arith)
-  cost_row c F (suc k) low high t =
-      omega (arith, cond_true (F (suc k)) (c (suc k)) 0 t, sum-at_least (count h) (λ j. cond (F (suc j)) (c (suc j)) 0) k (omega arith))
-
-  choice_cost : (d : List ℕ) → is_choice h d ≡ true → cost h (charge h) (λ k. member k d) ≡ total h d
-  unfolding cost
-  choice_cost d choice = sym (over_choice h (charge h) d choice) ∙ charge-total h d choice
-
   -- one row at another cost, and two sets of rows that differ at most in it
   recosted_cost :
       (c : ℕ → ℕ) (i e : ℕ) → 1 ≤ i → i ≤ count h → (F G : ℕ → Bool) → ((k : ℕ) → (k ≡ i → ⊥) → F k ≡ G k) →
@@ -56,13 +41,6 @@ module _ (h : Hall) where
       (λ k l d. let other : suc k ≡ suc i → ⊥ = λ q. d (omega arith) in
       ap₂ (λ (b : Bool) (x : ℕ). cond b x 0) (same (suc k) other) (recosted_other (suc i) e c (suc k) other))
       (rw (recosted_here (suc i) e c) (omega arith))
-
-  module _ (rg : Ranged h) where
-    -- no joining set costs less than a repaired one
-    repaired_least : (c p : ℕ → ℕ) (F : ℕ → Bool) → Repaired h c p F → (G : ℕ → Bool) → Joining h (once G) → cost h c F ≤ cost h c G
-    repaired_least c p F done =
-        let w = parted_weighs h rg (once F) p done.joining done.parted in
-        cheapest h F p w.0 w.1 c done.under done.paid
 
 module _ (h : Hall) (able : Plannable h) (rg : Ranged h) (i : ℕ) (low : 1 ≤ i) (high : i ≤ count h) where
   -- a set without fixed rows that is charged least, of those that join and have row i, or have it not: its total is the least
@@ -80,7 +58,7 @@ module _ (h : Hall) (able : Plannable h) (rg : Ranged h) (i : ℕ) (low : 1 ≤ 
         omega (
           arith,
           listed_charges h G unfixed,
-          choice_cost h d of.choice,
+          choice_charges h d of.choice,
           least (λ k. member k d) (joins_joining h rg d of.joining) of.here,
         ),
   )
@@ -158,6 +136,6 @@ module _ (h : Hall) (able : Plannable h) (rg : Ranged h) (i : ℕ) (low : 1 ≤ 
           cost_row h (recosted i 256000001 (charge h)) F k lk uk t,
           repaired_least h rg (recosted i 256000001 (charge h)) p F done D (joins_joining h rg d of.joining),
           cost_without 256000001 D of.here,
-          choice_cost h d of.choice,
+          choice_charges h d of.choice,
           choice_cheap h able d of.choice,
         )

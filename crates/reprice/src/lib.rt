@@ -18,7 +18,12 @@ fn shut(potential: &[u64; 64], low: u64, high: u64) -> [u64; 64]
     requires { low ≤ high }
     ensures { (k : ℕ) → get_or result k 0 ≡ shut low high (λ (j : ℕ). get_or potential.now j 0) k }
 {
-    potential.map(|level| level - (level.saturating_sub(low) - level.saturating_sub(high)))
+    let mut next = [0; 64];
+    for k in 0..64 {
+        let level = potential[k];
+        next[k] = level - (level.saturating_sub(low) - level.saturating_sub(high));
+    }
+    next
 }
 
 // From a choice of least cost to one of least cost where the row at place k costs `cost`.
