@@ -2,11 +2,11 @@
 use mathlib.Core.Path.{◌≡◌, refl, sym, ap, ap₂, ◌∙◌}
 use mathlib.Core.Bool.{Bool, true, false, ◌||◌, not, cond}
 use mathlib.Core.Logic.{⊎_elim}
-use mathlib.Core.Option.{none, some}
 use Prim.Native.Nat.{ℕ, zero, suc, ◌+◌, ◌≤◌}
 use native.Mathlib.Omega.{arith}
 use lib.Dec.{eqb}
 use borrow.Author.Tests.{eqb-true, eqb-false}
+use Rattle.std.specs.Prelude.{Some, None}
 use Rattle.laws.proofs.Booleans.{by_bool, clash, or_cases, cond_true, cond_false, cond-zero}
 use Rattle.laws.proofs.Places.{sum_change}
 use Rattle.hall.specs.Hall.{Hall, row, count, member}
@@ -46,7 +46,7 @@ module _ (h : Hall) (able : Plannable h) (rg : Ranged h) (i : ℕ) (low : 1 ≤ 
   -- a set without fixed rows that is charged least, of those that join and have row i, or have it not: its total is the least
   least_total :
       (b : Bool) (G : ℕ → Bool) → NoneFixed h G → Joining h (once G) → G i ≡ b →
-      ((D : ℕ → Bool) → Joining h (once D) → D i ≡ b → cost h (charge h) G ≤ cost h (charge h) D) → LeastTotal h i b (some (total h (listed h G)))
+      ((D : ℕ → Bool) → Joining h (once D) → D i ≡ b → cost h (charge h) G ≤ cost h (charge h) D) → LeastTotal h i b (Some (total h (listed h G)))
   unfolding LeastTotal
   least_total b G unfixed joining here least = (
     (
@@ -88,24 +88,24 @@ module _ (h : Hall) (able : Plannable h) (rg : Ranged h) (i : ℕ) (low : 1 ≤ 
       ⊎_elim (λ (fixed : (row h k).fixed ≡ true). recosted_other i 256000001 (charge h) k (eqb-false k i t) ∙ charge-fixed h k fixed)
       (λ (at : eqb k i ≡ true). clash at t) (or_cases (row h k).fixed (eqb k i) dear))
 
-  module _ (free : (row h i).fixed ≡ false) (p : ℕ → ℕ) (F : ℕ → Bool) where
-    least_same : (b : Bool) → Repaired h (charge h) p F → F i ≡ b → LeastTotal h i b (some (total h (listed h F)))
+  module _ (p : ℕ → ℕ) (F : ℕ → Bool) where
+    least_same : (b : Bool) → Repaired h (charge h) p F → F i ≡ b → LeastTotal h i b (Some (total h (listed h F)))
     least_same b done e =
         let least = repaired_least h rg (charge h) p F done in
         least_total b F (below_rest F (least (unfixed_row h) able.joining)) done.joining e (λ D joined same. least D joined)
 
-    pub least_with : Repaired h (charge h) p F → F i ≡ true → LeastTotal h i true (some (total h (listed h F)))
+    pub least_with : Repaired h (charge h) p F → F i ≡ true → LeastTotal h i true (Some (total h (listed h F)))
     least_with = least_same true
 
-    pub least_without : Repaired h (charge h) p F → F i ≡ false → LeastTotal h i false (some (total h (listed h F)))
+    pub least_without : Repaired h (charge h) p F → F i ≡ false → LeastTotal h i false (Some (total h (listed h F)))
     least_without = least_same false
 
     put_more : (k : ℕ) → F k ≡ true → put i true F k ≡ true
     unfolding put
     put_more k t = by_bool (eqb k i) (λ e. cond_true (eqb k i) true (F k) e) (λ e. cond_false (eqb k i) true (F k) e ∙ t)
 
-    pub forced_in : Repaired h (recosted i 0 (charge h)) p F → LeastTotal h i true (some (total h (listed h (put i true F))))
-    forced_in done =
+    pub forced_in : (row h i).fixed ≡ false → Repaired h (recosted i 0 (charge h)) p F → LeastTotal h i true (Some (total h (listed h (put i true F))))
+    forced_in free done =
         let G = put i true F in
         let charged = cost_with F G (put_same i true F) (λ k d. sym (put_other i true F k d)) in
         let joining : Joining h (once G) = joining_mono h F G (λ k l u t. put_more k t) done.joining in
@@ -113,7 +113,7 @@ module _ (h : Hall) (able : Plannable h) (rg : Ranged h) (i : ℕ) (low : 1 ≤ 
         λ D joined e. omega (arith, charged, repaired_least h rg (recosted i 0 (charge h)) p F done D joined, cost_with D D e (λ k d. refl)) in
         least_total true G (below_rest G (least (unfixed_row h) able.joining (ap not free))) joining (put_same i true F) least
 
-    pub forced_out : Repaired h (recosted i 256000001 (charge h)) p F → F i ≡ false → NoneFixed h F → LeastTotal h i false (some (total h (listed h F)))
+    pub forced_out : Repaired h (recosted i 256000001 (charge h)) p F → F i ≡ false → NoneFixed h F → LeastTotal h i false (Some (total h (listed h F)))
     forced_out done out unfixed =
         least_total false F unfixed done.joining out
         (λ D joined e.
@@ -126,7 +126,7 @@ module _ (h : Hall) (able : Plannable h) (rg : Ranged h) (i : ℕ) (low : 1 ≤ 
 
     pub forced_none :
         Repaired h (recosted i 256000001 (charge h)) p F → (k : ℕ) → 1 ≤ k → k ≤ count h → F k ≡ true → ((row h k).fixed || eqb k i) ≡ true →
-        LeastTotal h i false none
+        LeastTotal h i false None
     unfolding LeastTotal
     forced_none done k lk uk t dear d of =
         let D : ℕ → Bool = λ j. member j d in

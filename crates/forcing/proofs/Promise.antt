@@ -2,11 +2,12 @@
 use mathlib.Core.Path.{◌≡◌, refl, sym, ap, ◌∙◌}
 use mathlib.Core.Bool.{Bool, true, false, not, cond}
 use mathlib.Core.List.{List}
-use mathlib.Core.Option.{Option, none, some}
+use mathlib.Core.Option.{Option as Shore, none, some}
 use Prim.Native.Nat.{ℕ, ◌+◌, ◌≤◌}
 use native.Mathlib.Omega.{arith}
 use lib.Dec.{eqb}
 use borrow.Author.Tests.{eqb-true, eq-eqb}
+use Rattle.std.specs.Prelude.{Option, Some, None}
 use Rattle.laws.proofs.Booleans.{by_bool, clash, and_i, not_true_false}
 use Rattle.hall.specs.Hall.{Hall, row, count, enters, is_cut, is_choice, entering, unfixed, member, missed, is_none, joins}
 use Rattle.hall.specs.File.{hall_in, openable}
@@ -30,26 +31,26 @@ use Rattle.forcing.proofs.OneRow.{total-without, entering-without, put_in, put_i
 module _ (h : Hall) (i : ℕ) where
   module _ (c : List ℕ) (first : First h c) where
     -- no least total is below the plan's
-    least_above : (has : Bool) (t : ℕ) → LeastTotal h i has (some t) → total h c ≤ t
+    least_above : (has : Bool) (t : ℕ) → LeastTotal h i has (Some t) → total h c ≤ t
     unfolding LeastTotal
     least_above has t w = let f = w.0.1 in omega (arith, first_least h c w.0.0 first f.choice f.joining, w.0.2)
 
     -- where the plan is one of the choices that count, it is the plan's
-    least_is : (has : Bool) (t : ℕ) → LeastTotal h i has (some t) → member i c ≡ has → t ≡ total h c
+    least_is : (has : Bool) (t : ℕ) → LeastTotal h i has (Some t) → member i c ≡ has → t ≡ total h c
     unfolding LeastTotal
     least_is has t w e =
         omega (arith, least_above has t w, w.1 c record { choice = first.choice; joining = first.joining; here = e })
 
-    smaller_is : (a : ℕ) (b : Option ℕ) → LeastTotal h i true (some a) → LeastTotal h i false b → smaller a b ≡ total h c
+    smaller_is : (a : ℕ) (b : Option ℕ) → LeastTotal h i true (Some a) → LeastTotal h i false b → smaller a b ≡ total h c
     unfolding LeastTotal smaller
-    smaller_is a none u v =
+    smaller_is a None u v =
         by_bool (member i c) (λ e. least_is true a u e) (λ e. absurd (v c record { choice = first.choice; joining = first.joining; here = e }))
-    smaller_is a (some t) u v =
+    smaller_is a (Some t) u v =
         by_bool (member i c) (λ e. omega (arith, least_is true a u e, least_above false t v)) (λ e. omega (arith, least_above true a u, least_is false t v e))
 
     -- a loop that the plan has not is put in, or left out of a choice that has it
     loop-figure :
-        Ranged h → (a : ℕ) → 1 ≤ i → i ≤ count h → (row h i).fixed ≡ false → LeastTotal h i true (some a) → member i c ≡ false →
+        Ranged h → (a : ℕ) → 1 ≤ i → i ≤ count h → (row h i).fixed ≡ false → LeastTotal h i true (Some a) → member i c ≡ false →
         (row h i).from ≡ (row h i).to → a ≡ total h c + (row h i).price
     unfolding LeastTotal joins
     loop-figure rg a low high free w out loop =
@@ -100,7 +101,7 @@ module _ (h : Hall) (i : ℕ) where
 
     module _ (rg : Ranged h) where
       none_cut :
-          openable h ≡ true → LeastTotal h i false none → (o : Option ℕ) → missed h others ≡ o →
+          openable h ≡ true → LeastTotal h i false None → (o : Shore ℕ) → missed h others ≡ o →
           (s : ℕ) × (is_cut h s ≡ true) × (enters s (row h i) ≡ true) × (entering h s (unfixed h) ≡ 1)
       unfolding LeastTotal joins is_none
       none_cut opens alone none e = absurd (alone others record { choice = others_choice; joining = ap is_none e; here = others_without })
@@ -108,10 +109,10 @@ module _ (h : Hall) (i : ℕ) where
           let w = missed_shore h rg others s others_choice e in
           let x = missed_alone s opens w.0 w.1 in (s, w.0, x.0, x.1)
 
-      cut_none : (b : Option ℕ) → LeastTotal h i false b → (s : ℕ) → is_cut h s ≡ true → enters s (row h i) ≡ true → entering h s (unfixed h) ≡ 1 → b ≡ none
+      cut_none : (b : Option ℕ) → LeastTotal h i false b → (s : ℕ) → is_cut h s ≡ true → enters s (row h i) ≡ true → entering h s (unfixed h) ≡ 1 → b ≡ None
       unfolding LeastTotal Joining
-      cut_none none v s cut e one = refl
-      cut_none (some t) v s cut e one =
+      cut_none None v s cut e one = refl
+      cut_none (Some t) v s cut e one =
           let d = v.0.0 in
           let f = v.0.1 in
           let met = joins_joining h rg d f.joining s (cut_shore h s cut) in

@@ -1,6 +1,5 @@
 -- What is promised of a row's figures. Each statement is a type; proofs/Promise.antt proves it. Assumes nothing.
-use Rattle.std.specs.Prelude.{◌≡◌, true, List, ℕ, ◌+◌, ◌≤◌, min}
-use Rattle.std.proofs.Math.Option.{Option, none, some}
+use Rattle.std.specs.Prelude.{◌≡◌, true, List, ℕ, ◌+◌, ◌≤◌, min, Option, Some, None}
 use Rattle.hall.specs.Hall.{row, count, enters, is_cut, entering, unfixed, member}
 use Rattle.hall.specs.File.{hall_in}
 use Rattle.hall.specs.Plan.{First, total}
@@ -9,8 +8,8 @@ use Rattle.forcing.specs.Figures.{FiguresOf, totals}
 
 -- the smaller of both figures, or the only one
 unfoldable pub smaller : (a : ℕ) → Option ℕ → ℕ
-smaller a none = a
-smaller a (some b) = min a b
+smaller a None = a
+smaller a (Some b) = min a b
 
 -- the smaller figure, or the only one, is the plan's total; the first equals it for an opened row; a loop's first is the total and its price
 unfoldable pub FiguresAndPlan : Type 0
@@ -24,5 +23,5 @@ FiguresAndPlan =
 unfoldable pub NoneExactly : Type 0
 NoneExactly =
     (bs : List ℕ) (i a : ℕ) (b : Option ℕ) → accepted bs ≡ true → 1 ≤ i → i ≤ count (hall_in bs) → FiguresOf (hall_in bs) i (totals a b) →
-    (b ≡ none → (s : ℕ) × (is_cut (hall_in bs) s ≡ true) × (enters s (row (hall_in bs) i) ≡ true) × (entering (hall_in bs) s (unfixed (hall_in bs)) ≡ 1))
-    × ((s : ℕ) → is_cut (hall_in bs) s ≡ true → enters s (row (hall_in bs) i) ≡ true → entering (hall_in bs) s (unfixed (hall_in bs)) ≡ 1 → b ≡ none)
+    (b ≡ None → (s : ℕ) × (is_cut (hall_in bs) s ≡ true) × (enters s (row (hall_in bs) i) ≡ true) × (entering (hall_in bs) s (unfixed (hall_in bs)) ≡ 1))
+    × ((s : ℕ) → is_cut (hall_in bs) s ≡ true → enters s (row (hall_in bs) i) ≡ true → entering (hall_in bs) s (unfixed (hall_in bs)) ≡ 1 → b ≡ None)

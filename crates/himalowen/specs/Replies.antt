@@ -12,6 +12,7 @@ use Rattle.routing.specs.Route.{way_outcome, way_set, way_filled, RouteSays}
 use Rattle.screening.specs.declared.Screened.{Screened}
 use Rattle.screening.specs.Figure.{FigureSays}
 use Rattle.oneplan.specs.Plan.{RowsSays, PairSays}
+use Rattle.withwithout.specs.Figures.{FiguresSays}
 
 -- number, row, outcome, set
 unfoldable pub told_places : Result Finding Kind → List ℕ
@@ -48,6 +49,10 @@ FigureLeaves bs c f r x = (t : Result Screened Kind) × FigureSays bs c f t × (
 unfoldable pub RowsLeaves : List ℕ → (returned : ℕ) → (reply before after : List ℕ) → Type 0
 RowsLeaves bs r v a x = (f : Refusal) × (k t : ℕ) × RowsSays bs f k t a x × (v ≡ f.number ∷ f.place ∷ k ∷ t ∷ []) × (r ≡ f.number)
 
--- and for the cuts' call: number, row, cuts and levels, with the lent lists before and after
+-- the same for the cuts' call: number, row, cuts and levels, with the lent lists before and after
 unfoldable pub PairLeaves : List ℕ → (returned : ℕ) → (reply a a_now b b_now : List ℕ) → (d d_now : List ℤ) → Type 0
 PairLeaves bs r v a x b y d w = (f : Refusal) × (q l : ℕ) × PairSays bs f q l a x b y d w × (v ≡ f.number ∷ f.place ∷ q ∷ l ∷ []) × (r ≡ f.number)
+
+-- and for the least totals with and without each row: number, row and filled, with the lent lists before and after
+unfoldable pub FiguresLeaves : List ℕ → (returned : ℕ) → (reply a a_now b b_now : List ℕ) → Type 0
+FiguresLeaves bs r v a x b y = (f : Refusal) × (k : ℕ) × FiguresSays bs f k a x b y × (v ≡ f.number ∷ f.place ∷ k ∷ []) × (r ≡ f.number)

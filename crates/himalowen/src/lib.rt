@@ -1,11 +1,11 @@
 // The calls of the C library, as include/himalowen.h declares them: a reply is an array of numbers, in the order of its fields. `himalowen_c` exports them.
 #![tactic(auto)]
 
-ghost use Rattle.std.specs.Prelude.{◌≡◌, [], ◌∷◌, ◌-◌, ◌≤◌, replicate};
+ghost use Rattle.std.specs.Prelude.{◌≡◌, [], ◌∷◌, ℕ, ◌-◌, ◌≤◌, replicate};
 ghost use Rattle.refusals.specs.Kinds.{refusal_of, answered, figure};
 ghost use Rattle.planrows.specs.declared.PlannedRows.{PlannedRows};
 ghost use Rattle.planpairs.specs.declared.PlannedCuts.{PlannedCuts};
-ghost use Rattle.himalowen.specs.Replies.{CheckLeaves, TightLeaves, RouteLeaves, FigureLeaves, RowsLeaves, PairLeaves, told_places, routed_places, screened_places};
+ghost use Rattle.himalowen.specs.Replies.{CheckLeaves, TightLeaves, RouteLeaves, FigureLeaves, RowsLeaves, PairLeaves, FiguresLeaves, told_places, routed_places, screened_places};
 
 use answers::Finding;
 use planpairs::PlannedCuts;
@@ -89,6 +89,16 @@ fn cuts_places(planned: Result<PlannedCuts, Kind>) -> [u64; 4]
     }
 }
 
+#[tactic(auto, unfolding(refusals::specs::Kinds::answered, refusals::specs::Kinds::figure, hall::specs::File::refusal))]
+fn figures_places(filled: Result<usize, Kind>) -> [u64; 3]
+    ensures { result ≡ (answered filled).number ∷ (answered filled).place ∷ figure (λ (k : ℕ). k) filled ∷ [] }
+{
+    match filled {
+        Ok(rows) => [0, 0, rows as u64],
+        Err(kind) => refused(kind),
+    }
+}
+
 #[tactic(auto, unfolding(crate::specs::Replies::CheckLeaves))]
 pub fn himalowen_check(file: &[u8], choice: &[u32], reply: &mut [u64; 4]) -> u32
     ensures { CheckLeaves file.now choice.now result reply.new }
@@ -155,4 +165,18 @@ pub fn himalowen_plan_cuts(
     let planned = planpairs::plan_pairs(file, shores, weights, levels);
     *reply = cuts_places(planned);
     number_of(planned)
+}
+
+#[tactic(auto, unfolding(crate::specs::Replies::FiguresLeaves))]
+pub fn himalowen_with_without(
+    file: &[u8],
+    with: &mut [u32],
+    without: &mut [u32],
+    reply: &mut [u64; 3],
+) -> u32
+    ensures { FiguresLeaves file.now result reply.new with.old with.new without.old without.new }
+{
+    let filled = withwithout::with_without(file, with, without);
+    *reply = figures_places(filled);
+    number_of(filled)
 }

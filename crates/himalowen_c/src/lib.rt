@@ -1,7 +1,7 @@
 // The exports of libhimalowen.a, as include/himalowen.h declares them: each is the call of that name in `himalowen`, with its promise.
 #![tactic(auto)]
 
-ghost use Rattle.himalowen.specs.Replies.{CheckLeaves, TightLeaves, RouteLeaves, FigureLeaves, RowsLeaves, PairLeaves};
+ghost use Rattle.himalowen.specs.Replies.{CheckLeaves, TightLeaves, RouteLeaves, FigureLeaves, RowsLeaves, PairLeaves, FiguresLeaves};
 
 #[unsafe(no_mangle)]
 pub extern "C" fn himalowen_check(file: &[u8], choice: &[u32], reply: &mut [u64; 4]) -> u32
@@ -67,4 +67,16 @@ pub extern "C" fn himalowen_plan_cuts(
         weights.old weights.new levels.old levels.new }
 {
     himalowen::himalowen_plan_cuts(file, shores, weights, levels, reply)
+}
+
+#[unsafe(no_mangle)]
+pub extern "C" fn himalowen_with_without(
+    file: &[u8],
+    with: &mut [u32],
+    without: &mut [u32],
+    reply: &mut [u64; 3],
+) -> u32
+    ensures { FiguresLeaves file.now result reply.new with.old with.new without.old without.new }
+{
+    himalowen::himalowen_with_without(file, with, without, reply)
 }

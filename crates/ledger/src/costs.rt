@@ -7,7 +7,7 @@ ghost use Rattle.ledger.specs.Padded.{Padded, charged};
 use columns::Costs;
 
 // More than 256 prices together: what no choice costs.
-const FIXED: u64 = 256_000_001;
+pub const FIXED: u64 = 256_000_001;
 
 // The charge of a row: its price, or more than any choice costs.
 #[tactic(auto, unfolding(order::specs::Ranked::charge_of))]

@@ -47,7 +47,7 @@ module _ (h : Hall) (x : HallRecord) (rd : Accepted h x) where
 
   -- at the charges, from the rows that are not fixed
   module _ (charges : List ℕ) (filled : Padded 256 (charged x.prices x.fixed) x.lanes.count charges) where
-    charge-at : (i : ℕ) → 1 ≤ i → i ≤ count h → at charges i ≡ charge h i
+    pub charge-at : (i : ℕ) → 1 ≤ i → i ≤ count h → at charges i ≡ charge h i
     charge-at i l u = filled.first (i - 1) (omega (arith, rd.columns.rows)) ∙ are_charges i l u
 
     pub charge_modest : Modest charges

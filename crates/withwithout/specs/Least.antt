@@ -1,0 +1,17 @@
+-- What the figures of a hall's rows start from. Assumes nothing: this is a definition.
+use Rattle.std.specs.Prelude.{◌≡◌, ℕ, ◌≤◌}
+use Rattle.laws.specs.Lists.{at}
+use Rattle.hall.specs.Hall.{Hall, count}
+use Rattle.hall.specs.Plan.{total}
+use Rattle.dicuts.specs.Listed.{listed}
+use Rattle.order.specs.Ranked.{charge}
+use Rattle.columns.specs.Columns.{flagged}
+use Rattle.plan.specs.Ready.{Accepted, Least}
+use Rattle.withwithout.specs.declared.LeastPlan.{LeastPlan}
+
+-- A CHOICE OF LEAST TOTAL of an accepted hall, with that total and what the rows are charged
+pub record LeastPlanOf (h : Hall) (p : LeastPlan) : Type 0 where
+  pub accepted : Accepted h p.hall.now
+  pub charges : (i : ℕ) → 1 ≤ i → i ≤ count h → at p.charges.rows i ≡ charge h i
+  pub least : Least h p.state
+  pub total : p.total ≡ total h (listed h (flagged p.state.chosen))
