@@ -1,6 +1,6 @@
 //! Plans: the plain Rust's, of which nothing is believed but what is judged right.
 
-use oracle::{hall_in, printed, words, Hall, Listed, Refusal, SMALL};
+use oracle::{hall_in, printed, words, Hall, Listed, Refusal, FEW, SMALL};
 
 pub fn judge(file: &[u8], text: &str) -> Vec<String> {
     oracle::judge(file, text, |costs| reference::cuts_at(file, costs).expect("the hall is accepted"))
@@ -20,7 +20,7 @@ fn plan(file: &[u8]) -> Result<(Hall, Listed), Refusal> {
         total: of_rows.total.into(),
     };
     assert_eq!(judge(file, &printed(&hall, &listed.claim())), [""; 0], "the plain Rust's plan");
-    if hall.n <= SMALL && hall.rows.len() <= 16 {
+    if hall.n <= SMALL && hall.rows.len() <= FEW {
         assert_eq!(oracle::first_choice(&hall), (listed.rows.clone(), listed.total), "the plain Rust's choice");
     }
     Ok((hall, listed))
