@@ -22,33 +22,37 @@ fn suite(what: impl Into<String>, files: impl Iterator<Item = Vec<u8>> + 'static
     Suite { what: what.into(), files: Box::new(files), test }
 }
 
-const PLAN: Test = |planner, file, _| plan(planner, file);
-
-const PLAN_OF_SMALL: Test = |planner, file, _| small_plan(planner, file);
-
-const FIRST_PLAN: Test = |planner, file, _| first_plan(planner, file);
-
 /// How many figures of rows that are opened, and of others, are shown of a hall that is not small.
 const SOME: usize = 3;
 
-const ALL_OF_SMALL: Test = |planner, file, seed| {
+const PLAN: Test = |planner, file, _| plan(planner, file);
+
+const FIRST_PLAN: Test = |planner, file, _| first_plan(planner, file);
+
+const FIGURES: Test = |planner, file, seed| with_without(planner, file, seed, SOME);
+
+const EVERY_FIGURE: Test = |planner, file, seed| with_without(planner, file, seed, 256);
+
+const PLAN_AND_FIGURES_OF_SMALL: Test = |planner, file, seed| {
     small_plan(planner, file)?;
-    calls_with_a_choice(planner, file, seed)?;
-    with_without(planner, file, seed, SOME)
+    FIGURES(planner, file, seed)
+};
+
+const ALL_OF_SMALL: Test = |planner, file, seed| {
+    PLAN_AND_FIGURES_OF_SMALL(planner, file, seed)?;
+    calls_with_a_choice(planner, file, seed)
 };
 
 const ALL: Test = |planner, file, seed| {
     plan(planner, file)?;
-    calls_with_a_choice(planner, file, seed)?;
-    with_without(planner, file, seed, SOME)
+    FIGURES(planner, file, seed)?;
+    calls_with_a_choice(planner, file, seed)
 };
 
 const TOO_SHORT: Test = |planner, file, _| {
     short_lists(planner, file)?;
     short_columns(planner, file)
 };
-
-const EVERY_FIGURE: Test = |planner, file, seed| with_without(planner, file, seed, 256);
 
 type Draw = fn(Kind, usize, u64) -> Vec<u8>;
 
@@ -75,8 +79,8 @@ fn suites(times: u64) -> Vec<Suite> {
         suites.push(suite(what, all_halls(n, rows, prices), ALL_OF_SMALL));
     }
     for (n, rows, prices) in [(3, 4, 3), (3, 5, 1), (4, 4, 1)] {
-        let what = format!("plans of all halls: {n} junctions, {rows} rows, fixed or below {prices}");
-        suites.push(suite(what, all_halls(n, rows, prices), PLAN_OF_SMALL));
+        let what = format!("plans and figures: {n} junctions, {rows} rows, fixed or below {prices}");
+        suites.push(suite(what, all_halls(n, rows, prices), PLAN_AND_FIGURES_OF_SMALL));
     }
     let drawn = starred().into_iter().chain(fixed_halls()).chain(sized_files());
     suites.push(suite("every route: halls drawn by hand, halls at the limits", drawn, every_route));
