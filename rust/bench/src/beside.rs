@@ -25,7 +25,7 @@ const ROUTE_BESIDE_CHECK: Beside = Beside {
 
 const TOTALS_BESIDE_ROWS: Beside = Beside {
     heading: "All rows' totals beside a plan",
-    what: "Of a full hall, in turns: the totals with and without each of its rows, and the plan's rows alone.",
+    what: "Of a full hall, in turns: the totals with and without each of its rows, and a plan by the rows' call alone.",
     names: ["plan", "all totals"],
     calls: [ROWS, TOTALS],
     often: |_| 1,

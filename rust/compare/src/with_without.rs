@@ -4,7 +4,7 @@ use halls::Random;
 use oracle::{Columns, Figures, Hall, FEW, SMALL};
 
 use crate::expect::{planned, same, Outcome};
-use crate::Planner;
+use crate::{planners, Planner};
 
 /// The figures that a call leaves in two lists of so many places; nothing where it has to refuse the lists or the file.
 fn left(planner: &Planner, file: &[u8], places: [usize; 2]) -> Result<Option<(Hall, Vec<Figures>)>, String> {
@@ -14,8 +14,8 @@ fn left(planner: &Planner, file: &[u8], places: [usize; 2]) -> Result<Option<(Ha
     oracle::figures_left(file, &lent, reply, &[with, without])
 }
 
-/// In small halls every choice is tried. In others each row's figures are held to the plan, and those of so many rows that it
-/// opens, and of so many others, are shown.
+/// In small halls every choice is tried. In others each row's figures are held to the plain Rust's and to the plan, and those of
+/// so many rows that it opens, and of so many others, are shown.
 pub fn with_without(planner: &Planner, file: &[u8], seed: u64, most: usize) -> Outcome {
     let mut random = Random::new(seed);
     let places = [(); 2].map(|_| random.pick(&[256, 257, 300]));
@@ -23,6 +23,8 @@ pub fn with_without(planner: &Planner, file: &[u8], seed: u64, most: usize) -> O
     if hall.n <= SMALL && hall.rows.len() <= FEW {
         return same("figures", figures, oracle::figures_by_trying(&hall));
     }
+    let plain = left(&planners()[0], file, [256; 2])?.map(|(_, figures)| figures);
+    same("figures, and the plain Rust's", Some(&figures), plain.as_ref())?;
     let (_, opened, total) = planned(planner, file)?.ok_or("the hall is refused")?;
     let mut drawn = |test: &dyn Fn(&u32) -> bool| {
         let rows = random.shuffled(oracle::unfixed(&hall).into_iter().filter(test).collect());
