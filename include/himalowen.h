@@ -21,12 +21,13 @@
 extern "C" {
 #endif
 
-/* The number of places of each reply, and the least number of places of each list lent to a plan or a route. */
+/* The number of places of each reply, and the least number of places of each list lent to a plan, a route or for figures. */
 enum {
     HIMALOWEN_TOLD_PLACES = 4,
     HIMALOWEN_ROUTED_PLACES = 5,
     HIMALOWEN_SCREENED_PLACES = 4,
     HIMALOWEN_PLANNED_PLACES = 4,
+    HIMALOWEN_FIGURED_PLACES = 3,
     HIMALOWEN_ROW_PLACES = 256,
     HIMALOWEN_CUT_PLACES = 125,
     HIMALOWEN_LEVEL_PLACES = 64,
@@ -47,6 +48,14 @@ enum { HIMALOWEN_CHOSEN = 2, HIMALOWEN_TOTAL = 3 };
 
 /* Places of the reply of himalowen_plan_cuts: how many cuts, and how many levels, are filled in. */
 enum { HIMALOWEN_CUTS = 2, HIMALOWEN_LEVELS = 3 };
+
+/* Place of the reply of himalowen_with_without: of how many rows the figures are filled in. */
+enum { HIMALOWEN_FIGURES = 2 };
+
+/* What stands in the lists of himalowen_with_without instead of totals: in the second for a row that every joining choice has,
+ * and in both for a fixed row. */
+#define HIMALOWEN_NONE UINT32_C(0xFFFFFFFF)
+#define HIMALOWEN_FIXED UINT32_C(0xFFFFFFFE)
 
 /* Outcomes. The set is the missed shore or the neighbourhood, else 0. */
 enum { HIMALOWEN_JOINS = 1, HIMALOWEN_MISSES = 2, HIMALOWEN_AROUND = 3, HIMALOWEN_ROUTE = 4 };
@@ -95,6 +104,14 @@ uint32_t himalowen_plan_cuts(const uint8_t *file, size_t file_length,
                              uint32_t *weights, size_t weights_length,
                              int32_t *levels, size_t levels_length,
                              uint64_t reply[HIMALOWEN_PLANNED_PLACES]);
+
+/* For each row the least total of the joining choices with it, and of those without it; row i's stand in place i - 1 of both
+ * lists. The smaller of a row's totals, or its only one, is that of himalowen_plan_rows; for a row that the plan opens it is the
+ * one with it. Each list has at least HIMALOWEN_ROW_PLACES places, or it is refused with 1. */
+uint32_t himalowen_with_without(const uint8_t *file, size_t file_length,
+                                uint32_t *with, size_t with_length,
+                                uint32_t *without, size_t without_length,
+                                uint64_t reply[HIMALOWEN_FIGURED_PLACES]);
 
 #ifdef __cplusplus
 }

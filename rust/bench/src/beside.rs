@@ -1,32 +1,66 @@
-//! A Markdown table of what a route takes beside a check of the same choice.
+//! Markdown tables of what one call takes beside another.
 
 use compare::{Lists, Planner};
 
-use crate::calls::{times, Case, CHECK, ROUTES};
+use crate::calls::{times, Call, Case, CHECK, ROUTES, ROWS, TOTALS};
 use crate::table::median_and_worst;
 
-/// Microseconds of a check and of a route, and how many times the first the second is.
-fn check_and_route(planner: &Planner, n: usize, case: &Case, lent: &mut Lists) -> [f64; 3] {
-    let best = times(&[(CHECK, planner), (ROUTES, planner)], case, lent);
-    let (check, route) = (best[0], best[1] / n as f64);
-    [check / 1e3, route / 1e3, route / check]
+/// Two calls on the same full halls, in turns.
+pub struct Beside {
+    heading: &'static str,
+    what: &'static str,
+    names: [&'static str; 2],
+    calls: [Call; 2],
+    /// How often the second is called in a run on a hall of n junctions.
+    often: fn(usize) -> usize,
 }
 
-pub fn print_head(planners: &[Planner]) {
-    println!("\n## A route beside a check\n\nOf the plan's choice of a full hall, in turns; a route is the mean of those above.\n");
-    let mut head = "| halls |".to_string();
-    for Planner { name, .. } in planners {
-        head += &format!(" {name}: check µs, median | route µs, median | route / check, median | worst |");
-    }
-    println!("{head}\n|---|{}", "---:|".repeat(head.matches('|').count() - 2));
-}
+const ROUTE_BESIDE_CHECK: Beside = Beside {
+    heading: "A route beside a check",
+    what: "Of the plan's choice of a full hall, in turns; a route is the mean of those above.",
+    names: ["check", "route"],
+    calls: [CHECK, ROUTES],
+    often: |n| n,
+};
 
-pub fn print_line(kind: &str, n: usize, planners: &[Planner], cases: &[Case], lent: &mut Lists) {
-    let mut line = format!("| {kind} |");
-    for planner in planners {
-        let of_cases: Vec<[f64; 3]> = cases.iter().map(|case| check_and_route(planner, n, case, lent)).collect();
-        let [check, route, ratio] = [0, 1, 2].map(|k| median_and_worst(of_cases.iter().map(|of| of[k]).collect()));
-        line += &format!(" {:.1} | {:.1} | {:.2} | {:.2} |", check.0, route.0, ratio.0, ratio.1);
+const TOTALS_BESIDE_ROWS: Beside = Beside {
+    heading: "All rows' totals beside a plan",
+    what: "Of a full hall, in turns: the totals with and without each of its rows, and a plan by the rows' call alone.",
+    names: ["plan", "all totals"],
+    calls: [ROWS, TOTALS],
+    often: |_| 1,
+};
+
+pub const BESIDE: [Beside; 2] = [ROUTE_BESIDE_CHECK, TOTALS_BESIDE_ROWS];
+
+impl Beside {
+    pub fn print_head(&self, planners: &[Planner]) {
+        println!("\n## {}\n\n{}\n", self.heading, self.what);
+        let [first, second] = self.names;
+        let mut head = "| halls |".to_string();
+        for Planner { name, .. } in planners {
+            head += &format!(
+                " {name}: {first} µs, median | {second} µs, median | worst | {second} / {first}, median | worst |"
+            );
+        }
+        println!("{head}\n|---|{}", "---:|".repeat(head.matches('|').count() - 2));
     }
-    println!("{line}");
+
+    pub fn print_line(&self, kind: &str, n: usize, planners: &[Planner], cases: &[Case], lent: &mut Lists) {
+        let mut line = format!("| {kind} |");
+        for planner in planners {
+            let of_cases: Vec<[f64; 3]> = cases.iter().map(|case| self.of_case(planner, n, case, lent)).collect();
+            let [first, second, ratio] = [0, 1, 2].map(|k| median_and_worst(of_cases.iter().map(|of| of[k]).collect()));
+            line += &format!(" {:.1} | {:.1} | {:.1} |", first.0, second.0, second.1);
+            line += &format!(" {:.2} | {:.2} |", ratio.0, ratio.1);
+        }
+        println!("{line}");
+    }
+
+    /// Microseconds of one call and of the other, and how many times the first the second is.
+    fn of_case(&self, planner: &Planner, n: usize, case: &Case, lent: &mut Lists) -> [f64; 3] {
+        let best = times(&self.calls.map(|call| (call, planner)), case, lent);
+        let (first, second) = (best[0], best[1] / (self.often)(n) as f64);
+        [first / 1e3, second / 1e3, second / first]
+    }
 }

@@ -37,7 +37,7 @@ pub struct Call {
     run: fn(&Planner, &Case, &mut Lists),
 }
 
-const ROWS: Call = Call {
+pub const ROWS: Call = Call {
     name: "Rows",
     what: "The first joining choice and its total.",
     counts: Some(|case| case.rows),
@@ -96,7 +96,17 @@ const FIGURES: Call = Call {
     },
 };
 
-pub const CALLS: [Call; 6] = [ROWS, CUTS, CHECK, TIGHT, ROUTES, FIGURES];
+pub const TOTALS: Call = Call {
+    name: "With and without each row",
+    what: "For every row the least total with it and the least without it.",
+    counts: None,
+    run: |planner, case, _| {
+        let (mut with, mut without) = ([0; 256], [0; 256]);
+        black_box((planner.totals)(black_box(&case.file), &mut with, &mut without));
+    },
+};
+
+pub const CALLS: [Call; 7] = [ROWS, CUTS, CHECK, TIGHT, ROUTES, FIGURES, TOTALS];
 
 impl Call {
     /// Nanoseconds of each planner.

@@ -6,6 +6,7 @@ mod calls;
 mod growth;
 mod table;
 
+use beside::BESIDE;
 use calls::{Case, CALLS, RUNS};
 use compare::{planners, Lists};
 use halls::{full_hall, Kind, KINDS};
@@ -47,8 +48,10 @@ reference, hall by hall."
         table.growth();
         table.end(FULL);
     }
-    beside::print_head(&planners);
-    for kind in KINDS {
-        beside::print_line(kind.name(), FULL, &planners, &cases(kind, FULL, &mut lent), &mut lent);
+    for beside in BESIDE {
+        beside.print_head(&planners);
+        for kind in KINDS {
+            beside.print_line(kind.name(), FULL, &planners, &cases(kind, FULL, &mut lent), &mut lent);
+        }
     }
 }

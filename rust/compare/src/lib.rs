@@ -1,12 +1,14 @@
-//! The planners that there are, behind the same six calls, and what each call must answer.
+//! The planners that there are, behind the same seven calls, and what each call must answer.
 
 mod expect;
 mod quotes;
 mod routes;
+mod with_without;
 
 pub use expect::{calls_with_a_choice, first_plan, plan, short_lists, small_plan};
 pub use quotes::quotes;
 pub use routes::every_route;
+pub use with_without::{short_columns, with_without};
 
 /// Number, row, outcome, set.
 pub type Told = [u64; 4];
@@ -49,6 +51,9 @@ pub type Route = fn(&[u8], &[u32], u32, u32, &mut [i32]) -> Routed;
 /// Each of the two calls looks only at its own of these lists.
 pub type Plan = fn(&[u8], &mut Lists) -> Planned;
 
+/// Into two lent lists.
+pub type Totals = fn(&[u8], &mut [u32], &mut [u32]) -> oracle::Figured;
+
 pub struct Planner {
     pub name: &'static str,
     pub check: fn(&[u8], &[u32]) -> Told,
@@ -57,6 +62,7 @@ pub struct Planner {
     pub over: fn(&[u8], &[u32], u32) -> oracle::Screened,
     pub rows: Plan,
     pub cuts: Plan,
+    pub totals: Totals,
 }
 
 /// A planner by its name and its crate; the crates have the same calls over types of their own.
@@ -96,6 +102,10 @@ macro_rules! planner {
                     Ok(p) => [0, 0, p.cuts as u64, p.levels as u64],
                     Err(refusal) => refused(refusal),
                 }
+            },
+            totals: |file, with, without| match $of::with_without_into(file, with, without) {
+                Ok(filled) => [0, 0, filled as u64],
+                Err(refusal) => [refusal.number.into(), refusal.row.into(), 0],
             },
         }
     }};

@@ -1,7 +1,10 @@
 //! Tries each planner on halls and files from fixed seeds and compares every answer with the oracle's.
 //! `compare [TIMES]` tries so many times as many random halls.
 
-use compare::{calls_with_a_choice, every_route, first_plan, plan, planners, quotes, short_lists, small_plan, Planner};
+use compare::{
+    calls_with_a_choice, every_route, first_plan, plan, planners, quotes, short_columns, short_lists, small_plan,
+    with_without, Planner,
+};
 use halls::{
     all_halls, damaged, fixed_hall, fixed_halls, full_hall, large_fixed_halls, looped_hall, random_files, random_hall,
     sized_files, starred, Kind, KINDS,
@@ -19,20 +22,36 @@ fn suite(what: impl Into<String>, files: impl Iterator<Item = Vec<u8>> + 'static
     Suite { what: what.into(), files: Box::new(files), test }
 }
 
-const PLAN: Test = |planner, file, _| plan(planner, file);
+/// How many figures of rows that are opened, and of others, are shown of a hall that is not small.
+const SOME: usize = 3;
 
-const PLAN_OF_SMALL: Test = |planner, file, _| small_plan(planner, file);
+const PLAN: Test = |planner, file, _| plan(planner, file);
 
 const FIRST_PLAN: Test = |planner, file, _| first_plan(planner, file);
 
-const ALL_OF_SMALL: Test = |planner, file, seed| {
+const FIGURES: Test = |planner, file, seed| with_without(planner, file, seed, SOME);
+
+const EVERY_FIGURE: Test = |planner, file, seed| with_without(planner, file, seed, 256);
+
+const PLAN_AND_FIGURES_OF_SMALL: Test = |planner, file, seed| {
     small_plan(planner, file)?;
+    FIGURES(planner, file, seed)
+};
+
+const ALL_OF_SMALL: Test = |planner, file, seed| {
+    PLAN_AND_FIGURES_OF_SMALL(planner, file, seed)?;
     calls_with_a_choice(planner, file, seed)
 };
 
 const ALL: Test = |planner, file, seed| {
     plan(planner, file)?;
+    FIGURES(planner, file, seed)?;
     calls_with_a_choice(planner, file, seed)
+};
+
+const TOO_SHORT: Test = |planner, file, _| {
+    short_lists(planner, file)?;
+    short_columns(planner, file)
 };
 
 type Draw = fn(Kind, usize, u64) -> Vec<u8>;
@@ -48,7 +67,7 @@ fn suites(times: u64) -> Vec<Suite> {
         suite("halls with fixed rows, drawn by hand", fixed_halls().into_iter(), ALL_OF_SMALL),
         suite("large halls with fixed rows, drawn by hand", large_fixed_halls().into_iter(), ALL),
         suite("first choices, large halls with fixed rows", large_fixed_halls().into_iter(), FIRST_PLAN),
-        suite("lists that are too short", too_short, |planner, file, _| short_lists(planner, file)),
+        suite("lists that are too short", too_short, TOO_SHORT),
         suite("halls and files at the limits", sized_files().into_iter(), ALL),
         suite("damaged files", (0..40).flat_map(|seed| damaged(&random_hall(6, 10, seed), seed)), ALL),
         suite("random files of every length", random_files(2_500, 7), ALL),
@@ -60,8 +79,8 @@ fn suites(times: u64) -> Vec<Suite> {
         suites.push(suite(what, all_halls(n, rows, prices), ALL_OF_SMALL));
     }
     for (n, rows, prices) in [(3, 4, 3), (3, 5, 1), (4, 4, 1)] {
-        let what = format!("plans of all halls: {n} junctions, {rows} rows, fixed or below {prices}");
-        suites.push(suite(what, all_halls(n, rows, prices), PLAN_OF_SMALL));
+        let what = format!("plans and figures: {n} junctions, {rows} rows, fixed or below {prices}");
+        suites.push(suite(what, all_halls(n, rows, prices), PLAN_AND_FIGURES_OF_SMALL));
     }
     let drawn = starred().into_iter().chain(fixed_halls()).chain(sized_files());
     suites.push(suite("every route: halls drawn by hand, halls at the limits", drawn, every_route));
@@ -83,6 +102,10 @@ fn suites(times: u64) -> Vec<Suite> {
         let files = (0..count * times).map(move |seed| random_hall(n, rows, seed));
         suites.push(suite(format!("one quote: up to {n} junctions and {rows} rows"), files, quotes));
     }
+    for (n, rows, count) in [(16, 48, 300), (64, 256, 30)] {
+        let files = (0..count * times).map(move |seed| random_hall(n, rows, seed));
+        suites.push(suite(format!("every figure: up to {n} junctions and {rows} rows"), files, EVERY_FIGURE));
+    }
     for (n, rows, count) in [(6, 10, 40_000), (8, 16, 1_000), (8, 32, 1_000), (12, 30, 1_000)] {
         let files = (0..count * times).map(move |seed| random_hall(n, rows, seed));
         suites.push(suite(format!("random halls up to {n} junctions and {rows} rows"), files, ALL_OF_SMALL));
@@ -101,6 +124,7 @@ fn suites(times: u64) -> Vec<Suite> {
         suites.push(suite(format!("{what}, 8 junctions"), of_kinds(draw, 8, 12 * times), ALL_OF_SMALL));
         suites.push(suite(format!("every route: {what}, 64 junctions"), of_kinds(draw, 64, times), every_route));
         suites.push(suite(format!("one quote: {what}, 64 junctions"), of_kinds(draw, 64, 12 * times), quotes));
+        suites.push(suite(format!("every figure: {what}, 64 junctions"), of_kinds(draw, 64, times), EVERY_FIGURE));
         for n in [16, 32, 64] {
             suites.push(suite(format!("{what}, {n} junctions"), of_kinds(draw, n, 12 * times), ALL));
             suites.push(suite(

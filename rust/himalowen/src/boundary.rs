@@ -60,6 +60,16 @@ mod exported {
             levels_length: usize,
             reply: &mut [u64; 4],
         ) -> u32;
+
+        pub fn himalowen_with_without(
+            file: *const u8,
+            file_length: usize,
+            with: *mut u32,
+            with_length: usize,
+            without: *mut u32,
+            without_length: usize,
+            reply: &mut [u64; 3],
+        ) -> u32;
     }
 }
 
@@ -125,6 +135,22 @@ pub fn plan_cuts(file: &[u8], shores: &mut [u64], weights: &mut [u32], levels: &
             weights.len(),
             levels.as_mut_ptr(),
             levels.len(),
+            &mut reply,
+        );
+    }
+    reply
+}
+
+pub fn with_without(file: &[u8], with: &mut [u32], without: &mut [u32]) -> [u64; 3] {
+    let mut reply = [0; 3];
+    unsafe {
+        exported::himalowen_with_without(
+            file.as_ptr(),
+            file.len(),
+            with.as_mut_ptr(),
+            with.len(),
+            without.as_mut_ptr(),
+            without.len(),
             &mut reply,
         );
     }

@@ -11,6 +11,12 @@ pub const CUT_PLACES: usize = 125;
 pub const LEVEL_PLACES: usize = 64;
 pub const ROUTE_PLACES: usize = 63;
 
+/// In the list of totals without each row: every joining choice has the row.
+pub const NONE: u32 = 0xFFFF_FFFF;
+
+/// In both lists of totals: the row is fixed.
+pub const FIXED: u32 = 0xFFFF_FFFE;
+
 /// Why a call was turned back: 1 to 11 without 7, or 15, and the row for 6 and 8, else 0.
 #[derive(Clone, Copy, Debug, PartialEq, Eq)]
 pub struct Refusal {
@@ -83,6 +89,15 @@ pub struct Cut {
 pub struct Cuts {
     pub cuts: Vec<Cut>,
     pub levels: Vec<i32>,
+}
+
+/// What is least with a row and without it.
+#[derive(Clone, Copy, Debug, PartialEq, Eq)]
+pub enum Figures {
+    /// The row is fixed: no choice has it.
+    Fixed,
+    /// The least total of the joining choices with the row, and of those without it, unless every joining choice has it.
+    Totals { with: u32, without: Option<u32> },
 }
 
 /// Whether the chosen rows, ascending and none of them fixed, join the hall.
@@ -160,6 +175,30 @@ pub fn plan_cuts(file: &[u8]) -> Result<Cuts, Refusal> {
     let planned = plan_cuts_into(file, &mut shores, &mut weights, &mut levels)?;
     let cuts = shores.iter().zip(&weights).map(|(&shore, &weight)| Cut { shore, weight });
     Ok(Cuts { cuts: cuts.take(planned.cuts).collect(), levels: levels[..planned.levels].to_vec() })
+}
+
+/// The least total of the joining choices with each row, and of those without it, in the front of the lent lists: row i's in
+/// place i - 1, [`NONE`] without a row that every joining choice has, and [`FIXED`] in both lists for a fixed row. Gives how
+/// many rows there are. Refusal 1 looks at these lists alone.
+pub fn with_without_into(file: &[u8], with: &mut [u32], without: &mut [u32]) -> Result<usize, Refusal> {
+    let [number, row, filled] = boundary::with_without(file, with, without);
+    accepted(number, row)?;
+    Ok(filled as usize)
+}
+
+/// The same for row after row. The smaller total of a row, or its only one, is the plan's; a row that the plan opens has it
+/// as the first.
+pub fn with_without(file: &[u8]) -> Result<Vec<Figures>, Refusal> {
+    let (mut with, mut without) = ([0; ROW_PLACES], [0; ROW_PLACES]);
+    let filled = with_without_into(file, &mut with, &mut without)?;
+    Ok(with.iter().zip(&without).take(filled).map(|(&with, &without)| figures(with, without)).collect())
+}
+
+fn figures(with: u32, without: u32) -> Figures {
+    match with {
+        FIXED => Figures::Fixed,
+        _ => Figures::Totals { with, without: (without != NONE).then_some(without) },
+    }
 }
 
 fn accepted(number: u64, row: u64) -> Result<(), Refusal> {

@@ -39,7 +39,7 @@ pub fn unshown(hall: &Hall, choice: &[u32], planner: impl Fn(&[u64]) -> Vec<(u64
 
 /// What a joining choice costs at least, if it has none of the rows without a cost: it meets each cut, and no row's load is
 /// over its cost. 0 where that is not so.
-fn bound(hall: &Hall, costs: &[Option<u64>], cuts: &[(u64, u64)]) -> u128 {
+pub fn bound(hall: &Hall, costs: &[Option<u64>], cuts: &[(u64, u64)]) -> u128 {
     let sum_where = |test: &dyn Fn(u64) -> bool| -> u128 {
         cuts.iter().filter(|(shore, _)| test(*shore)).map(|(_, weight)| u128::from(*weight)).sum()
     };

@@ -5,6 +5,7 @@
 mod certificate;
 mod figure;
 mod first;
+mod forced;
 mod hall;
 mod list;
 mod quote;
@@ -14,12 +15,15 @@ mod small;
 pub use certificate::{faults, Claim};
 pub use figure::{over_figure, sums, Screened};
 pub use first::unshown;
+pub use forced::{
+    figures_by_showing, figures_by_trying, figures_left, misfigured, Cheapest, Columns, Figured, Figures,
+};
 pub use hall::{hall_in, unfixed, Hall};
 pub use list::{judge, printed, words, Listed};
 pub use quote::{misquoted, quoted, requoted, Plan, Quoted};
 pub use reader::{Refusal, Row};
 pub use route::{first_routes, route, route_by_trying, Routed};
-pub use small::{first_choice, has_fixed_cut, neighbourhood_by_shores, SMALL};
+pub use small::{first_choice, has_fixed_cut, neighbourhood_by_shores, FEW, SMALL};
 
 use std::collections::BTreeMap;
 

@@ -6,6 +6,9 @@ use crate::holds;
 /// Halls of up to so many junctions are tried out whole.
 pub const SMALL: u64 = 12;
 
+/// Of up to so many rows every set is tried.
+pub const FEW: usize = 16;
+
 /// All shores of directed cuts.
 fn shores(hall: &Hall) -> Vec<u64> {
     (1..everything(hall)).filter(|&shore| is_cut(hall, shore)).collect()
@@ -44,22 +47,26 @@ fn rank(hall: &Hall, choice: u64) -> Rank {
 }
 
 /// The first joining choice without fixed rows and its total, in halls of up to 64 rows: every set of rows is tried, or, of
-/// more than 16 rows, every choice that meets unmet cuts one after the other and is not yet later in rank than one already
+/// more than a few, every choice that meets unmet cuts one after the other and is not yet later in rank than one already
 /// found. The first choice is among those, since it can spare no row.
 pub fn first_choice(hall: &Hall) -> (Vec<u32>, u64) {
-    let cuts = cuts(hall);
-    let (total, _, numbers) = if hall.rows.len() <= 16 { by_trying_all(hall, &cuts) } else { by_branching(hall, cuts) };
+    let (total, _, numbers) = if hall.rows.len() <= FEW { by_trying_all(hall) } else { by_branching(hall) };
     (numbers, total)
 }
 
-fn by_trying_all(hall: &Hall, cuts: &[u64]) -> Rank {
-    let fixed = fixed(hall);
-    let choices = (0u64..1 << hall.rows.len()).filter(|choice| choice & fixed == 0);
-    let joining = choices.filter(|choice| cuts.iter().all(|cut| cut & choice != 0));
-    joining.map(|choice| rank(hall, choice)).min().expect("the unfixed rows join an accepted hall")
+/// Every joining choice without fixed rows, in halls of few rows.
+pub fn joining_choices(hall: &Hall) -> impl Iterator<Item = u64> {
+    let (cuts, fixed) = (cuts(hall), fixed(hall));
+    let choices = (0u64..1 << hall.rows.len()).filter(move |choice| choice & fixed == 0);
+    choices.filter(move |choice| cuts.iter().all(|cut| cut & choice != 0))
 }
 
-fn by_branching(hall: &Hall, mut cuts: Vec<u64>) -> Rank {
+fn by_trying_all(hall: &Hall) -> Rank {
+    joining_choices(hall).map(|choice| rank(hall, choice)).min().expect("the unfixed rows join an accepted hall")
+}
+
+fn by_branching(hall: &Hall) -> Rank {
+    let mut cuts = cuts(hall);
     cuts.sort_by_key(|cut| cut.count_ones());
     let every_row: u64 = (0..hall.rows.len()).map(|i| 1 << i).sum();
     let mut first = rank(hall, every_row & !fixed(hall));

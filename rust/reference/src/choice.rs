@@ -5,6 +5,7 @@ use reader::Refusal;
 use crate::hall::Hall;
 use crate::sets::{holds, missed, reached_short_of, Arcs};
 
+#[derive(Clone)]
 pub struct Choice<'h> {
     pub hall: &'h Hall,
     chosen: [bool; 256],

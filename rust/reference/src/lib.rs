@@ -1,5 +1,5 @@
 //! Opening lanes at least cost: the method of the proved library in plain Rust, unproved.
-//! It is the baseline for benchmarks and answers the same six calls. Inside, junctions and rows count from 0.
+//! It is the baseline for benchmarks and answers the same seven calls. Inside, junctions and rows count from 0.
 
 mod choice;
 mod cuts;
@@ -18,6 +18,12 @@ pub const ROW_PLACES: usize = 256;
 pub const CUT_PLACES: usize = 125;
 pub const LEVEL_PLACES: usize = 64;
 pub const ROUTE_PLACES: usize = 63;
+
+/// In a list of totals without a row: every joining choice has the row.
+pub const NONE: u32 = 0xFFFF_FFFF;
+
+/// In both lists of totals: the row is fixed.
+pub const FIXED: u32 = 0xFFFF_FFFE;
 
 #[derive(Clone, Copy, Debug, PartialEq, Eq)]
 pub enum Finding {
@@ -55,6 +61,9 @@ pub struct PlannedCuts {
     pub levels: usize,
     pub counts: Counts,
 }
+
+/// Shores and weights.
+pub type Cuts = Vec<(u64, u64)>;
 
 /// Joins, or the set reached from the lowest junction that does not reach all.
 pub fn check(file: &[u8], choice: &[u32]) -> Result<Finding, Refusal> {
@@ -143,8 +152,29 @@ pub fn plan_cuts_into(
     Ok(PlannedCuts { cuts: cuts.len(), levels: hall.n, counts })
 }
 
-/// Shores and weights of the cuts beside a choice of least cost, where each row has another cost than its price.
-pub fn cuts_at(file: &[u8], costs: &[u64]) -> Result<Vec<(u64, u64)>, Refusal> {
+/// For each row the least total with it and the least without it, in the front of the lent lists; gives how many rows there are.
+pub fn with_without_into(file: &[u8], with: &mut [u32], without: &mut [u32]) -> Result<usize, Refusal> {
+    if with.len() < ROW_PLACES || without.len() < ROW_PLACES {
+        return Err(Refusal::new(1));
+    }
     let hall = hall::read(file)?;
-    Ok(planner::cuts_at(&hall, costs.iter().map(|&cost| cost as i64).collect()))
+    for (places, totals) in with.iter_mut().zip(without).zip(planner::totals(&hall)) {
+        (*places.0, *places.1) = match totals {
+            Some(totals) => (totals.with as u32, totals.without.map_or(NONE, |total| total as u32)),
+            None => (FIXED, FIXED),
+        };
+    }
+    Ok(hall.rows.len())
+}
+
+/// A choice of least cost, where each row has another cost than its price, and the cuts beside it.
+pub fn plan_at(file: &[u8], costs: &[u64]) -> Result<(Vec<u32>, Cuts), Refusal> {
+    let hall = hall::read(file)?;
+    let (chosen, cuts) = planner::plan_at(&hall, costs.iter().map(|&cost| cost as i64).collect());
+    Ok((chosen.into_iter().map(|i| i as u32 + 1).collect(), cuts))
+}
+
+/// The cuts alone.
+pub fn cuts_at(file: &[u8], costs: &[u64]) -> Result<Cuts, Refusal> {
+    plan_at(file, costs).map(|(_, cuts)| cuts)
 }

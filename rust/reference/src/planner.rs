@@ -16,6 +16,7 @@ pub struct Counts {
     pub raises: u32,
 }
 
+#[derive(Clone)]
 pub struct Planner<'h> {
     pub choice: Choice<'h>,
     pub potential: [i64; 64],
@@ -31,6 +32,12 @@ enum Search {
     Path(Vec<usize>),
     /// The set reached; it does not hold the target.
     Closed(u64),
+}
+
+/// What is least with a row, and without it where there is a joining choice without it.
+pub struct Totals {
+    pub with: i64,
+    pub without: Option<i64>,
 }
 
 /// What a fixed row costs: more than any choice of the others.
@@ -64,9 +71,28 @@ pub fn cuts(hall: &Hall) -> (Vec<(u64, u64)>, Vec<i32>, Counts) {
     (cuts::cuts(&mut planner), levels, planner.counts)
 }
 
-/// The cuts beside a choice of least cost, for other costs than the prices.
-pub fn cuts_at(hall: &Hall, cost: Vec<i64>) -> Vec<(u64, u64)> {
-    cuts::cuts(&mut Planner::repaired(hall, cost))
+/// A choice of least cost and the cuts beside it, for other costs than the prices.
+pub fn plan_at(hall: &Hall, cost: Vec<i64>) -> (Vec<usize>, Vec<(u64, u64)>) {
+    let mut planner = Planner::repaired(hall, cost);
+    (planner.choice.rows().collect(), cuts::cuts(&mut planner))
+}
+
+/// For each row but a fixed one the least totals of the joining choices with it and of those without it. A row that a choice
+/// of least total has is tried at a fixed row's cost, any other for nothing.
+pub fn totals(hall: &Hall) -> Vec<Option<Totals>> {
+    let planner = Planner::repaired(hall, hall.rows.iter().map(charge).collect());
+    let total = planner.total();
+    let of_row = |(i, row): (usize, &Row)| {
+        if row.fixed {
+            None
+        } else if planner.choice.has(i) {
+            let without = planner.recosted(i, FIXED_COST).total();
+            Some(Totals { with: total, without: (without < FIXED_COST).then_some(without) })
+        } else {
+            Some(Totals { with: planner.recosted(i, 0).total() + charge(row), without: Some(total) })
+        }
+    };
+    hall.rows.iter().enumerate().map(of_row).collect()
 }
 
 impl<'h> Planner<'h> {
@@ -82,6 +108,28 @@ impl<'h> Planner<'h> {
         };
         planner.repair();
         planner
+    }
+
+    /// The same with another cost for a row, repaired from where it stands.
+    fn recosted(&self, i: usize, cost: i64) -> Planner<'h> {
+        let mut planner = self.clone();
+        planner.cost[i] = cost;
+        if planner.gap(i) < 0 {
+            planner.shut(i);
+        }
+        planner.repair();
+        planner
+    }
+
+    /// The potential between a row's ends is taken out, so that they are level; no difference grows.
+    fn shut(&mut self, i: usize) {
+        let row = self.hall().rows[i];
+        let (low, high) = (self.potential[row.tail], self.potential[row.head]);
+        self.potential.iter_mut().for_each(|level| *level -= (*level).clamp(low, high) - low);
+    }
+
+    fn total(&self) -> i64 {
+        self.choice.rows().map(|i| self.cost[i]).sum()
     }
 
     pub fn hall(&self) -> &'h Hall {

@@ -59,6 +59,7 @@ pub fn neighbourhood(choice: &Choice, known: &Arcs, v: usize) -> u64 {
 }
 
 /// Neighbourhoods as they are asked for, kept until the choice changes.
+#[derive(Clone)]
 pub struct Neighbourhoods {
     known: Arcs,
 }

@@ -5,6 +5,8 @@
 //!     oracle tight FILE ROWS JUNCTION    AROUND with the set, MISSES, or REFUSED
 //!     oracle route FILE ROWS FROM TO     ROUTE with the rows, below 0 if run backward, MISSES, or REFUSED
 //!     oracle figure FILE ROWS FIGURE     OVER or WITHIN, and how many rows are read, or REFUSED
+//!     oracle totals FILE                 for each row its number and the least totals with it and without it, or NONE, or
+//!                                        FIXED; or REFUSED
 //!     oracle plan FILE                   the first joining choice: OPEN, its rows, TOTAL; or REFUSED
 //!     oracle list FILE                   a right printed list
 //!     oracle judge FILE LIST             RIGHT, or what is wrong with a printed list
@@ -22,7 +24,7 @@ use std::process::ExitCode;
 use oracle::{hall_in, holds, words, Told, SMALL};
 
 const USAGE: &str =
-    "usage: oracle read|check|tight|route|figure|plan|list|judge|lines ..., as src/bin/oracle/main.rs says";
+    "usage: oracle read|check|tight|route|figure|totals|plan|list|judge|lines ..., as src/bin/oracle/main.rs says";
 
 /// The answer, or what is wrong.
 fn answer(request: &[&str]) -> Result<String, String> {
@@ -35,6 +37,7 @@ fn answer(request: &[&str]) -> Result<String, String> {
         ["tight", name, rows, junction] => tight(&file(name)?, &choice(rows)?, number(junction)?),
         ["route", name, rows, from, to] => route(&file(name)?, &choice(rows)?, number(from)?, number(to)?),
         ["figure", name, rows, figure] => screened(&file(name)?, &choice(rows)?, number(figure)?),
+        ["totals", name] => plans::figures(&file(name)?),
         ["plan", name] => plans::choice(&file(name)?),
         ["list", name] => plans::list(&file(name)?),
         ["judge", name, list] => judge(name, &String::from_utf8_lossy(&file(list)?))?,
