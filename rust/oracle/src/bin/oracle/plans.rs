@@ -45,15 +45,19 @@ fn told(file: &[u8], tell: impl Fn(&Hall, &Listed) -> String) -> String {
     plan(file).map_or_else(refused, |(hall, plan)| tell(&hall, &plan))
 }
 
-/// A line for each row: its number and the least totals with it and without it, or NONE where every joining choice has it, or
-/// FIXED. Those of every row are shown, and in small halls they are the figures when every choice is tried, too.
+/// How many rows there are, and a line for each: its number and the least totals with it and without it, or NONE where every
+/// joining choice has it, or FIXED. Those of every row are shown, and in small halls they are the figures when every choice is
+/// tried, too.
 pub fn figures(file: &[u8]) -> String {
     let line = |(row, figures): (usize, &Figures)| match figures {
         Figures::Fixed => format!("{row} FIXED\n"),
         Figures::Totals { with, without: None } => format!("{row} {with} NONE\n"),
         Figures::Totals { with, without: Some(without) } => format!("{row} {with} {without}\n"),
     };
-    shown_figures(file).map_or_else(refused, |figures| (1..).zip(&figures).map(line).collect())
+    let list = |figures: Vec<Figures>| {
+        format!("ROWS {}\n", figures.len()) + &(1..).zip(&figures).map(line).collect::<String>()
+    };
+    shown_figures(file).map_or_else(refused, list)
 }
 
 /// The plain Rust's figures, of every row.
