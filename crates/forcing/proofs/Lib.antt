@@ -1,4 +1,5 @@
 pub mod Recosted
 pub mod Least
 pub mod OneRow
+pub mod Alone
 pub mod Promise

@@ -1,3 +1,4 @@
 pub mod Least
 pub mod Listed
 pub mod Says
+pub mod Alone

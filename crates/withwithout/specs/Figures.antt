@@ -1,17 +1,10 @@
--- What the call for the least totals with and without each row answers and leaves behind. Assumes nothing: these are definitions.
+-- What the call for the least totals with and without each row answers and leaves behind, and that file and lists fix it. The statement is a type; proofs/Alone.antt proves it. Assumes nothing.
 use Rattle.std.specs.Prelude.{◌≡◌, List, map, ℕ, zero, suc, ◌≤◌, length, get_or, Some, None}
 use Rattle.laws.specs.Lists.{in_front}
 use Rattle.hall.specs.Hall.{Hall, count}
 use Rattle.hall.specs.File.{hall_in, hall_refusal, Refusal}
 use Rattle.forcing.specs.Figures.{Figures, is_fixed, totals, FiguresOf}
 use Rattle.opening.specs.Choice.{room_for}
-use Rattle.withwithout.specs.declared.Figures.{Figures as Reply}
-use Rattle.withwithout.specs.declared.Figures.TheVariants.{Fixed, Totals}
-
--- the figures that a reply has
-unfoldable pub figures_of : Reply → Figures
-figures_of Fixed = is_fixed
-figures_of (Totals a b) = totals a b
 
 -- how figures stand in the two lent lists: FFFFFFFF hexadecimal is "none", FFFFFFFE a fixed row
 unfoldable pub with_number : Figures → ℕ
@@ -34,3 +27,9 @@ FiguresAs (suc n) h k a x b y = (k ≡ 0) × (x ≡ a) × (y ≡ b)
 unfoldable pub FiguresSays : List ℕ → (answered : Refusal) → (filled : ℕ) → (a x b y : List ℕ) → Type 0
 FiguresSays bs f k a x b y =
     (f ≡ room_for 256 (length a) (room_for 256 (length b) (hall_refusal bs))) × FiguresAs f.number (hall_in bs) k a x b y
+
+-- whatever method is inside, file and lent lists fix the reply and every place
+unfoldable pub FiguresAlone : Type 0
+FiguresAlone =
+    (bs a x y b u v : List ℕ) (f g : Refusal) (k l : ℕ) → FiguresSays bs f k a x b u → FiguresSays bs g l a y b v →
+    (f ≡ g) × (k ≡ l) × (x ≡ y) × (u ≡ v)

@@ -12,8 +12,8 @@ ghost use Rattle.refusals.specs.Kinds.{answered, figure};
 ghost use Rattle.forcing.specs.Figures.{LeastTotal, FiguresOf};
 ghost use Rattle.forcing.specs.Recosted.{recosted};
 ghost use Rattle.plan.specs.Ready.{Accepted};
-ghost use Rattle.withwithout.specs.Figures.{figures_of, with_number, without_number, FiguresAs, FiguresSays};
-ghost use Rattle.withwithout.specs.Least.{LeastPlanOf};
+ghost use Rattle.withwithout.specs.Figures.{with_number, without_number, FiguresAs, FiguresSays};
+ghost use Rattle.withwithout.specs.Least.{LeastPlanOf, figures_of};
 
 use columns::Costs;
 use hallfile::HallRecord;
@@ -37,7 +37,7 @@ pub enum Figures {
 
 impl Figures {
     // What stands in the first list: C callers read a number.
-    #[tactic(auto, unfolding(crate::specs::Figures::figures_of, crate::specs::Figures::with_number))]
+    #[tactic(auto, unfolding(crate::specs::Least::figures_of, crate::specs::Figures::with_number))]
     pub fn with(self) -> u32
         ensures { result ≡ with_number (figures_of self) }
     {
@@ -48,7 +48,7 @@ impl Figures {
     }
 
     // What stands in the second list: C callers read a number.
-    #[tactic(auto, unfolding(crate::specs::Figures::figures_of, crate::specs::Figures::without_number))]
+    #[tactic(auto, unfolding(crate::specs::Least::figures_of, crate::specs::Figures::without_number))]
     pub fn without(self) -> u32
         ensures { result ≡ without_number (figures_of self) }
     {

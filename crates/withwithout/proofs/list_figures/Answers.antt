@@ -1,7 +1,7 @@
 -- `withwithout::list_figures`: one row's figures more, and at the end those of all rows. Assumes nothing.
 use mathlib.Core.Path.{◌≡◌, sym, ◌∙◌}
 use native.Mathlib.Omega.{arith}
-use Rattle.withwithout.specs.Figures.{figures_of}
+use Rattle.withwithout.specs.Least.{figures_of}
 use Rattle.withwithout.proofs.Listed.{listed_none, listed_next, listed_all}
 use Rattle.withwithout.proofs.list_figures.Goals as goal
 

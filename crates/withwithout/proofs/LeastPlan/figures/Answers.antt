@@ -2,7 +2,7 @@
 use mathlib.Core.Path.{sym, ◌∙◌}
 use Rattle.withwithout.proofs.Least.{mark_here, total_with, total_without}
 use Rattle.forcing.specs.Figures.{FiguresOf}
-use Rattle.withwithout.specs.Figures.{figures_of}
+use Rattle.withwithout.specs.Least.{figures_of}
 use Rattle.withwithout.proofs.LeastPlan.figures.Goals as goal
 
 pub returns-then-self-k : goal.returns-then-self-k
