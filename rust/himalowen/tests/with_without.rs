@@ -3,6 +3,8 @@
 
 use himalowen::{plan_rows, with_without, with_without_into, Figures, Refusal, FIXED, NONE, ROW_PLACES};
 
+const SIX_ROWS: &[u8] = include_bytes!("../../../samples/six-rows.hall");
+
 const FIXED_FIELD: u32 = 0xFFFF_FFFF;
 
 /// One block of rows: from, to, price field.
@@ -15,19 +17,15 @@ fn hall(n: u8, rows: &[[u32; 3]]) -> Vec<u8> {
     file
 }
 
-fn six_rows() -> Vec<u8> {
-    hall(4, &[[1, 2, 3], [2, 3, 1], [1, 3, 5], [1, 3, FIXED_FIELD], [2, 2, 5], [3, 4, 2]])
-}
-
 fn totals(with: u32, without: impl Into<Option<u32>>) -> Figures {
     Figures::Totals { with, without: without.into() }
 }
 
 #[test]
 fn each_row_has_its_totals() {
-    assert_eq!(plan_rows(&six_rows()).expect("a hall").rows, [1, 2, 6]);
+    assert_eq!(plan_rows(SIX_ROWS).expect("a hall").rows, [1, 2, 6]);
     let figures = [totals(6, 7), totals(6, 7), totals(7, 6), Figures::Fixed, totals(11, 6), totals(6, None)];
-    assert_eq!(with_without(&six_rows()), Ok(figures.to_vec()));
+    assert_eq!(with_without(SIX_ROWS), Ok(figures.to_vec()));
 }
 
 #[test]
@@ -38,7 +36,7 @@ fn a_hall_without_rows_has_no_figures() {
 #[test]
 fn only_the_first_places_are_written() {
     let (mut with, mut without) = ([77; ROW_PLACES], [88; ROW_PLACES + 1]);
-    assert_eq!(with_without_into(&six_rows(), &mut with, &mut without), Ok(6));
+    assert_eq!(with_without_into(SIX_ROWS, &mut with, &mut without), Ok(6));
     assert_eq!(with[..6], [6, 6, 7, FIXED, 11, 6]);
     assert_eq!(without[..6], [7, 7, 6, FIXED, 6, NONE]);
     assert!(with[6..].iter().all(|&total| total == 77));
@@ -50,11 +48,11 @@ fn refusals_write_nothing() {
     let refused = |number, row| Err(Refusal { number, row });
     let (mut with, mut without) = ([77; ROW_PLACES], [88; ROW_PLACES]);
     for (a, b) in [(1, 0), (0, 1), (ROW_PLACES, ROW_PLACES)] {
-        assert_eq!(with_without_into(&six_rows(), &mut with[a..], &mut without[b..]), refused(1, 0));
+        assert_eq!(with_without_into(SIX_ROWS, &mut with[a..], &mut without[b..]), refused(1, 0));
         assert_eq!(with_without_into(&[], &mut with[a..], &mut without[b..]), refused(1, 0));
     }
     let halls = [
-        (six_rows()[..3].to_vec(), refused(2, 0)),
+        (SIX_ROWS[..3].to_vec(), refused(2, 0)),
         (hall(2, &[[1, 2, 1], [1, 2, 1_000_001]]), refused(8, 2)),
         (hall(3, &[[1, 2, 1]]), refused(9, 0)),
         (hall(2, &[[1, 2, FIXED_FIELD]]), refused(15, 0)),
