@@ -1,13 +1,12 @@
 -- What sets of rows are charged: a choice its total, and a set without fixed rows at most 256,000,000, which a fixed row is over. Assumes nothing.
 use mathlib.Core.Path.{◌≡◌, sym, ◌∙◌}
-use mathlib.Core.Bool.{Bool, true, cond}
+use mathlib.Core.Bool.{Bool, true}
 use mathlib.Core.List.{List}
-use Prim.Native.Nat.{ℕ, zero, suc, ◌+◌, ◌*◌, ◌≤◌}
+use Prim.Native.Nat.{ℕ, ◌+◌, ◌*◌, ◌≤◌}
 use native.Mathlib.Nat.{mul-le-mul_right}
 use native.Mathlib.Omega.{arith}
 use lib.ListN.{length}
-use Rattle.laws.proofs.Booleans.{by_bool, cond_true}
-use Rattle.laws.proofs.Finite.{sum-at_least}
+use Rattle.laws.proofs.Booleans.{by_bool}
 use Rattle.hall.specs.Hall.{Hall, row, count, is_choice, member}
 use Rattle.hall.specs.Plan.{total}
 use Rattle.dicuts.specs.Shores.{unfixed_row}
@@ -16,23 +15,16 @@ use Rattle.dicuts.proofs.Choices.{choice_length, choice_unfixed}
 use Rattle.dicuts.proofs.Listed.{listed_choice}
 use Rattle.dicuts.proofs.Unfixed.{unfixed_none}
 use Rattle.potentials.specs.Potential.{cost}
-use Rattle.potentials.proofs.Starts.{cost_most}
+use Rattle.potentials.proofs.Starts.{cost_most, cost_row}
 use Rattle.order.specs.Ranked.{charge, ranked, Plannable}
 use Rattle.order.proofs.Ranked.{charge_price, charge-fixed, charge-total, ranked_charges}
 use Rattle.choicelists.proofs.Totals.{over_choice, over_listed}
 
 module _ (h : Hall) where
-  -- a set costs no less than one of its rows
-  pub cost_row : (c : ℕ → ℕ) (F : ℕ → Bool) (k : ℕ) → 1 ≤ k → k ≤ count h → F k ≡ true → c k ≤ cost h c F
-  unfolding cost
-  cost_row c F zero low high t = absurd (omega arith)
-  cost_row c F (suc k) low high t =
-      omega (arith, cond_true (F (suc k)) (c (suc k)) 0 t, sum-at_least (count h) (λ j. cond (F (suc j)) (c (suc j)) 0) k (omega arith))
-
   -- a set that is charged no more than any choice may cost has no fixed row
   pub cheap_unfixed : (F : ℕ → Bool) → cost h (charge h) F ≤ 256000000 → NoneFixed h F
   cheap_unfixed F cheap i l u in_it =
-      by_bool (row h i).fixed (λ e. absurd (omega (arith, cheap, cost_row (charge h) F i l u in_it, charge-fixed h i e))) (λ e. e)
+      by_bool (row h i).fixed (λ e. absurd (omega (arith, cheap, cost_row h (charge h) F i l u in_it, charge-fixed h i e))) (λ e. e)
 
   pub choice_charges : (c : List ℕ) → is_choice h c ≡ true → cost h (charge h) (λ i. member i c) ≡ total h c
   unfolding cost

@@ -6,7 +6,7 @@ use Rattle.std.specs.Prelude.{Option, None, Some, MatchOption}
 use Prim.Native.Nat.{ℕ, suc, ◌-◌, ◌≤◌, ◌<◌}
 use native.Mathlib.Omega.{arith}
 use lib.Dec.{eqb, leb}
-use lib.ListN.{length, set}
+use lib.ListN.{length, set, get_or}
 use lib.Seq.{get_or-set_same, get_or-set_other}
 use borrow.Author.Tests.{eqb-true, eqb-false, leb-true, leb-false}
 use Rattle.laws.specs.Lists.{at}
@@ -39,17 +39,17 @@ module _ (m : ℕ) (test : ℕ → Bool) where
   unfolding FirstPlace
   none_passes none k less passes = clash passes (first_least m test k (omega (arith, none)))
 
--- a flag set is a row put in or taken out
-pub set_puts : (flags : List Bool) (r : ℕ) (b : Bool) → r < length flags → SameRows (flagged (set flags r b)) (put (suc r) b (flagged flags))
+-- what is set at a place of a column is put for the row that stands there
+pub set_puts : {A : Type 0} (none : A) (xs : List A) (r : ℕ) (b : A) → r < length xs → (k : ℕ) → 1 ≤ k → get_or (set xs r b) (k - 1) none ≡ put (suc r) b (λ j. get_or xs (j - 1) none) k
 unfolding put
-set_puts flags r b less k l =
+set_puts none xs r b less k l =
     by_bool (eqb k (suc r))
     (λ e.
     let q : k - 1 ≡ r = omega (arith, eqb-true k (suc r) e) in
-    rw (e, q) (get_or-set_same flags r b false less))
+    rw (e, q) (get_or-set_same xs r b none less))
     (λ e.
     let other : k - 1 ≡ r → ⊥ = λ q. eqb-false k (suc r) e (omega arith) in
-    rw e (get_or-set_other flags r (k - 1) b false other))
+    rw e (get_or-set_other xs r (k - 1) b none other))
 
 module _ (h : Hall) (m : ℕ → Bool) (c p : ℕ → ℕ) (F : ℕ → Bool) (x y count_rows : ℕ) (rows : count h ≡ count_rows) (flags : List Bool) where
   abbrev pub opening_row : ℕ → Bool
@@ -62,13 +62,13 @@ module _ (h : Hall) (m : ℕ → Bool) (c p : ℕ → ℕ) (F : ℕ → Bool) (x
   unfolding end_of Takes after
   made_open r first fits ly hy arc =
       let found = found_passes count_rows opening_row r first in
-      (by_open (suc r) y, refl, opens_true h m c p F x y (suc r) (omega arith) (omega (arith, rows, found.0)) found.1, set_puts flags r true fits)
+      (by_open (suc r) y, refl, opens_true h m c p F x y (suc r) (omega arith) (omega (arith, rows, found.0)) found.1, set_puts false flags r true fits)
 
   pub made_close : (r : ℕ) → FirstPlace count_rows closing_row (Some r) → r < length flags → Made h m c p F x y (flagged flags) (flagged (set flags r false))
   unfolding end_of Takes after
   made_close r first fits ly hy arc =
       let found = found_passes count_rows closing_row r first in
-      (by_close (suc r) y, refl, closes_true h m c p F x y (suc r) (omega arith) (omega (arith, rows, found.0)) found.1, set_puts flags r false fits)
+      (by_close (suc r) y, refl, closes_true h m c p F x y (suc r) (omega arith) (omega (arith, rows, found.0)) found.1, set_puts false flags r false fits)
 
   pub made_swap : FirstPlace count_rows opening_row None → FirstPlace count_rows closing_row None → Made h m c p F x y (flagged flags) (flagged flags)
   unfolding end_of Takes after
@@ -125,4 +125,4 @@ module _ (h : Hall) (m : ℕ → Bool) (c p : ℕ → ℕ) (F : ℕ → Bool) wh
     pub walking_end :
         (x : ℕ) (flags : List Bool) (r : ℕ) (b : Bool) → r < length flags → Walking x (flagged flags) → Walked h m c p F dist x target (suc r) b (flagged (set flags r b))
     walking_end x flags r b less walk =
-        (walk.0, walk.1, λ k l. set_puts flags r b less k l ∙ puts_same (suc r) b (flagged flags) (flipped walk.0 F) walk.2 k l)
+        (walk.0, walk.1, λ k l. set_puts false flags r b less k l ∙ puts_same (suc r) b (flagged flags) (flipped walk.0 F) walk.2 k l)

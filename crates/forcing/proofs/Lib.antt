@@ -1,4 +1,4 @@
-pub mod Recosted
+pub mod Shut
 pub mod Least
 pub mod OneRow
 pub mod Alone

@@ -1,3 +1,3 @@
 pub mod Figures
-pub mod Recosted
+pub mod Shut
 pub mod Promise

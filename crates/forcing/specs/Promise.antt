@@ -11,7 +11,7 @@ unfoldable pub smaller : (a : ℕ) → Option ℕ → ℕ
 smaller a None = a
 smaller a (Some b) = min a b
 
--- the smaller figure, or the only one, is the plan's total; the first equals it for an opened row; a loop's first is the total and its price
+-- the plan's total is the smaller of both, or the only one; of an opened row it is the one with the row; a loop costs its price more with it
 unfoldable pub FiguresAndPlan : Type 0
 FiguresAndPlan =
     (bs c : List ℕ) (i a : ℕ) (b : Option ℕ) → accepted bs ≡ true → First (hall_in bs) c → 1 ≤ i → i ≤ count (hall_in bs) →
@@ -19,7 +19,7 @@ FiguresAndPlan =
     (smaller a b ≡ total (hall_in bs) c) × (member i c ≡ true → a ≡ total (hall_in bs) c)
     × ((row (hall_in bs) i).from ≡ (row (hall_in bs) i).to → a ≡ total (hall_in bs) c + (row (hall_in bs) i).price)
 
--- there is no total without a row exactly if some directed cut has it as its only row that is not fixed
+-- a row has no figure without it exactly if it alone, of the rows that are not fixed, enters some directed cut
 unfoldable pub NoneExactly : Type 0
 NoneExactly =
     (bs : List ℕ) (i a : ℕ) (b : Option ℕ) → accepted bs ≡ true → 1 ≤ i → i ≤ count (hall_in bs) → FiguresOf (hall_in bs) i (totals a b) →

@@ -1,4 +1,5 @@
-// Planning over the lanes of a hall: a choice of least cost with its potential, then the first of all choices.
+// Planning over the lanes of a hall: a choice of least cost with its potential, then the first of all choices; and of a hall's record a choice
+// of least total.
 // It stands on the start, the neighbourhoods, repair and the dictionary step; its promises use `Repaired` and `First`.
 #![tactic(auto)]
 

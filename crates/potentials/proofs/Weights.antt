@@ -1,5 +1,5 @@
 -- How a leg changes how often shores are entered, and that a set of rows joins and is tight where the multiplicities it supports are. Assumes nothing.
-use mathlib.Core.Path.{◌≡◌, refl, ap}
+use mathlib.Core.Path.{◌≡◌, refl, ap, ◌∙◌}
 use mathlib.Core.Bool.{Bool, true, false, ◌&&◌, not, cond}
 use Prim.Native.Nat.{ℕ, zero, suc, ◌+◌, ◌≤◌}
 use native.Mathlib.Omega.{arith}
@@ -17,14 +17,19 @@ use Rattle.potentials.specs.Potential.{Parted}
 use Rattle.potentials.specs.ZeroGraph.{Opens, Closes}
 use Rattle.potentials.specs.Flip.{by_open, by_close, put, weigh, Supports}
 
--- a row put in or taken out
-pub put_same : (i : ℕ) (b : Bool) (F : ℕ → Bool) → put i b F i ≡ b
+-- row i, and any other
+pub put_same : {A : Type 0} (i : ℕ) (b : A) (F : ℕ → A) → put i b F i ≡ b
 unfolding put
 put_same i b F = cond_true (eqb i i) b (F i) (eq-eqb i i refl)
 
-pub put_other : (i : ℕ) (b : Bool) (F : ℕ → Bool) (k : ℕ) → (k ≡ i → ⊥) → put i b F k ≡ F k
+pub put_other : {A : Type 0} (i : ℕ) (b : A) (F : ℕ → A) (k : ℕ) → (k ≡ i → ⊥) → put i b F k ≡ F k
 unfolding put
 put_other i b F k d = cond_false (eqb k i) b (F k) (ne_eqb k i d)
+
+-- with row i put in, a set has all its rows
+pub put_more : (i : ℕ) (F : ℕ → Bool) (k : ℕ) → F k ≡ true → put i true F k ≡ true
+unfolding put
+put_more i F k t = by_bool (eqb k i) (λ e. cond_true (eqb k i) true (F k) e) (λ e. cond_false (eqb k i) true (F k) e ∙ t)
 
 -- a row enters a shore where the shore holds its end and not its start
 enters_parts : (a b : Bool) → (a ≡ true → b ≡ true) → one_if (not a && b) + one_if a ≡ one_if b

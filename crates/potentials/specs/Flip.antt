@@ -37,8 +37,8 @@ Turns h m c p F y (by_open i w) x = (w ≡ x) × Opens h m c p y w i
 Turns h m c p F y (by_close i w) x = (w ≡ x) × Closes h m F y w i × (p w < p y + c i)
 Turns h m c p F y (by_swap w) x = ⊥
 
--- the set of rows with row i in it or not
-unfoldable pub put : (i : ℕ) → Bool → (F : ℕ → Bool) → ℕ → Bool
+-- what a row has, with b for row i: a set of rows with row i in it or not, or costs at which row i costs b
+unfoldable pub put : {A : Type 0} → (i : ℕ) → A → (F : ℕ → A) → ℕ → A
 put i b F k = cond (eqb k i) b (F k)
 
 -- the set of rows after one leg

@@ -4,48 +4,42 @@ use mathlib.Core.Bool.{Bool}
 use mathlib.Core.List.{List}
 use Prim.Native.Nat.{ℕ, suc, ◌+◌, ◌-◌, ◌≤◌, ◌<◌}
 use native.Mathlib.Omega.{arith}
-use lib.Dec.{eqb}
 use lib.ListN.{get_or, length, set}
-use lib.Seq.{get_or-set_same, get_or-set_other}
-use borrow.Author.Tests.{eqb-true, eqb-false}
 use Rattle.laws.specs.Lists.{at}
-use Rattle.laws.proofs.Booleans.{by_bool}
 use Rattle.hall.specs.Hall.{Hall, row, count}
-use Rattle.columns.specs.Columns.{flagged}
+use Rattle.columns.specs.Columns.{flagged, Neighbourhoods}
 use Rattle.columns.specs.declared.Lanes.{Lanes}
 use Rattle.columns.proofs.Places.{lane_tail, lane_head}
 use Rattle.potentials.specs.Potential.{slack, cost}
+use Rattle.potentials.specs.Flip.{put}
 use Rattle.potentials.specs.Repair.{Repairable, Repaired}
 use Rattle.potentials.proofs.Same.{slack_same, repairable_same, repaired_same}
-use Rattle.forcing.specs.Recosted.{recosted, shut}
-use Rattle.forcing.proofs.Recosted.{recosted_here, recosted_other, shut_low, recosted_repairable, recosted_slack}
+use Rattle.forcing.specs.Shut.{shut}
+use Rattle.forcing.proofs.Shut.{shut_low, shut_repairable, shut_slack}
+use Rattle.flip.proofs.Flips.{set_puts}
 use Rattle.repair.specs.declared.State.{State}
 use Rattle.repair.specs.Repairs.{RepairStart, RepairEnd}
 use Rattle.reprice.specs.Reprice.{Repriceable}
 
--- the costs with one of them changed
-pub costs_set : (costs : List ℕ) (k e : ℕ) → k < length costs → (i : ℕ) → 1 ≤ i → at (set costs k e) i ≡ recosted (suc k) e (at costs) i
-costs_set costs k e fits i low =
-    by_bool (eqb i (suc k))
-    (λ t. let same : i ≡ suc k = eqb-true i (suc k) t in let place : suc k - 1 ≡ k = omega arith in
-    rw (same, place, recosted_here (suc k) e (at costs)) (get_or-set_same costs k e 0 fits))
-    (λ t. let other = eqb-false i (suc k) t in
-    rw (recosted_other (suc k) e (at costs) i other) (get_or-set_other costs k (i - 1) e 0 (λ q. other (omega arith))))
+-- a choice of least cost where the row at place k costs e, with its neighbourhoods
+pub record Repriced (h : Hall) (costs : List ℕ) (k e : ℕ) (s : State) : Type 0 where
+  pub repaired : Repaired h (put (suc k) e (at costs)) (at s.potential) (flagged s.chosen)
+  pub around : Neighbourhoods h (flagged s.chosen) s.around
 
 -- the choice at these levels can be repaired at the costs with one of them changed, and what is repaired then is so at the new costs
 pub record Repricing (h : Hall) (l : Lanes) (costs : List ℕ) (s : State) (k e : ℕ) (levels : List ℕ) : Type 0 where
   pub can : Repairable h (at (set costs k e)) (at levels) (flagged s.chosen)
   pub start : RepairStart l (set costs k e) (record { chosen = s.chosen; potential = levels; around = s.around })
   pub end : (end : State) → RepairEnd h (at (set costs k e)) (record { chosen = s.chosen; potential = levels; around = s.around }) end →
-      Repaired h (recosted (suc k) e (at costs)) (at end.potential) (flagged end.chosen)
+      Repriced h costs k e end
 
 module _ (h : Hall) (l : Lanes) (costs : List ℕ) (s : State) (k e : ℕ) (inside : k < l.count) (ready : Repriceable h l costs s (suc k) e)
     (long : length costs ≡ 256) where
   abbrev changed : ℕ → ℕ
-  changed = recosted (suc k) e (at costs)
+  changed = put (suc k) e (at costs)
 
   changed_costs : (i : ℕ) → 1 ≤ i → i ≤ count h → changed i ≡ at (set costs k e) i
-  changed_costs i low high = sym (costs_set costs k e (omega (arith, long, inside, l.ends.few)) i low)
+  changed_costs i low high = sym (set_puts 0 costs k e (omega (arith, long, inside, l.ends.few)) i low)
 
   -- the levels of the row's ends, and the potential shut between them
   module _ (t d a b : ℕ) (tail : suc t ≡ get_or l.tails k 0) (head : suc d ≡ get_or l.heads k 0)
@@ -74,14 +68,14 @@ module _ (h : Hall) (l : Lanes) (costs : List ℕ) (s : State) (k e : ℕ) (insi
     can : Repairable h (at (set costs k e)) (at levels) F
     can =
         repairable_same h ready.ranged changed (at (set costs k e)) changed_costs (shut a b p) (at levels) (λ j lj uj. levels_are j) F F (λ i li ui. refl)
-        (recosted_repairable h (at costs) p F (suc k) e a b ready.repaired from_is low to_high)
+        (shut_repairable h (at costs) p F (suc k) e a b ready.repaired from_is low to_high)
 
     slack_low : slack h (at (set costs k e)) (at levels) F ≤ cost h changed F
     slack_low =
         omega (
           arith,
           slack_same h ready.ranged changed (at (set costs k e)) changed_costs (shut a b p) (at levels) (λ j lj uj. levels_are j) F F (λ i li ui. refl),
-          recosted_slack h (at costs) p F (suc k) e a b ready.repaired from_is low to_high,
+          shut_slack h (at costs) p F (suc k) e a b ready.repaired from_is low to_high,
         )
 
     pub repricing : Repricing h l costs s k e levels
@@ -96,7 +90,10 @@ module _ (h : Hall) (l : Lanes) (costs : List ℕ) (s : State) (k e : ℕ) (insi
             around = ready.around;
             bound = λ j lj uj. omega (arith, levels_are j, shut_low a b p j, slack_low, ready.low j lj uj);
           };
-          end = λ end done.
-              repaired_same h ready.ranged (at (set costs k e)) changed (λ i li ui. sym (changed_costs i li ui)) (at end.potential) (at end.potential)
-              (λ j lj uj. refl) (flagged end.chosen) (flagged end.chosen) (λ i li ui. refl) done.repaired;
+          end = λ end done. record {
+            repaired =
+                repaired_same h ready.ranged (at (set costs k e)) changed (λ i li ui. sym (changed_costs i li ui)) (at end.potential) (at end.potential)
+                (λ j lj uj. refl) (flagged end.chosen) (flagged end.chosen) (λ i li ui. refl) done.repaired;
+            around = done.around;
+          };
         }

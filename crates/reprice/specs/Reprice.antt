@@ -4,8 +4,8 @@ use Rattle.laws.specs.Lists.{at}
 use Rattle.hall.specs.Hall.{Hall}
 use Rattle.dicuts.specs.Shores.{Ranged}
 use Rattle.potentials.specs.Potential.{cost}
+use Rattle.potentials.specs.Flip.{put}
 use Rattle.potentials.specs.Repair.{Repaired}
-use Rattle.forcing.specs.Recosted.{recosted}
 use Rattle.columns.specs.Columns.{flagged, Neighbourhoods}
 use Rattle.columns.specs.Lanes.{LanesOf}
 use Rattle.columns.specs.declared.Lanes.{Lanes}
@@ -17,5 +17,5 @@ pub record Repriceable (h : Hall) (lanes : Lanes) (costs : List ℕ) (s : State)
   pub ranged : Ranged h
   pub repaired : Repaired h (at costs) (at s.potential) (flagged s.chosen)
   pub around : Neighbourhoods h (flagged s.chosen) s.around
-  pub low : (j : ℕ) → 1 ≤ j → j ≤ 64 → at s.potential j + cost h (recosted i e (at costs)) (flagged s.chosen) < 2 ^ 61
+  pub low : (j : ℕ) → 1 ≤ j → j ≤ 64 → at s.potential j + cost h (put i e (at costs)) (flagged s.chosen) < 2 ^ 61
   pub cheap : e < 2 ^ 61

@@ -1,13 +1,14 @@
 // A choice of least cost taken on to one where a row costs otherwise: its potential is shut as far as the row asks, and repair goes on.
-// `recosted` and `shut` are those of `forcing`.
+// The costs are those of `put` in `potentials`, and `shut` is that of `forcing`.
 #![tactic(auto)]
 
 ghost use Rattle.std.specs.Prelude.{◌≡◌, ℕ, suc, ◌≤◌, ◌<◌, get_or};
 ghost use Rattle.laws.specs.Lists.{at};
 ghost use Rattle.hall.specs.Hall.{Hall};
+ghost use Rattle.potentials.specs.Flip.{put};
 ghost use Rattle.potentials.specs.Repair.{Repaired};
-ghost use Rattle.columns.specs.Columns.{flagged};
-ghost use Rattle.forcing.specs.Recosted.{recosted, shut};
+ghost use Rattle.columns.specs.Columns.{flagged, Neighbourhoods};
+ghost use Rattle.forcing.specs.Shut.{shut};
 ghost use Rattle.reprice.specs.Reprice.{Repriceable};
 
 use columns::{Costs, Lane, Lanes};
@@ -26,11 +27,13 @@ fn shut(potential: &[u64; 64], low: u64, high: u64) -> [u64; 64]
     next
 }
 
-// From a choice of least cost to one of least cost where the row at place k costs `cost`.
+// From a choice of least cost to one of least cost where the row at place k costs `cost`, with its neighbourhoods.
 pub fn reprice(lanes: &Lanes, costs: &Costs, state: &State, k: usize, cost: u64) -> State
     requires { (k < lanes.now.count) × ((h : Hall) × Repriceable h lanes.now costs.now.rows state.now (suc k) cost) }
-    ensures { (h : Hall) → Repriceable h lanes.now costs.now.rows state.now (suc k) cost →
-        Repaired h (recosted (suc k) cost (at costs.now.rows)) (at result.potential) (flagged result.chosen) }
+    ensures repaired { (h : Hall) → Repriceable h lanes.now costs.now.rows state.now (suc k) cost →
+        Repaired h (put (suc k) cost (at costs.now.rows)) (at result.potential) (flagged result.chosen) }
+    ensures around { (h : Hall) → Repriceable h lanes.now costs.now.rows state.now (suc k) cost →
+        Neighbourhoods h (flagged result.chosen) result.around }
 {
     let Lane { tail, head } = lanes.lane(k);
     let mut rows = costs.rows;

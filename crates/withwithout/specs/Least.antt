@@ -1,5 +1,5 @@
--- What the figures of a hall's rows start from, and which figures the code's are. Assumes nothing: these are definitions.
-use Rattle.std.specs.Prelude.{◌≡◌, ℕ, ◌≤◌}
+-- What the figures of a hall's rows start from, which figures the code's are, and which rows may not be chosen. Assumes nothing: these are definitions.
+use Rattle.std.specs.Prelude.{◌≡◌, Bool, false, ◌&&◌, ◌||◌, List, ℕ, ◌≤◌, eqb, get_or}
 use Rattle.laws.specs.Lists.{at}
 use Rattle.hall.specs.Hall.{Hall, count}
 use Rattle.hall.specs.Plan.{total}
@@ -23,3 +23,7 @@ pub record LeastPlanOf (h : Hall) (p : LeastPlan) : Type 0 where
 unfoldable pub figures_of : Own → Figures
 figures_of Fixed = is_fixed
 figures_of (Totals a b) = totals a b
+
+-- the row at place i is chosen, and is fixed or stands at place k
+abbrev pub barred : (chosen fixed : List Bool) → (k i : ℕ) → Bool
+barred chosen fixed k i = get_or chosen i false && (get_or fixed i false || eqb i k)

@@ -2,18 +2,18 @@
 // specs/Figures.antt.
 #![tactic(auto)]
 
-ghost use Rattle.std.specs.Prelude.{◌≡◌, true, false, ◌&&◌, ◌||◌, ℕ, suc, ◌≤◌, ◌<◌, eqb, length, get_or, Some};
+ghost use Rattle.std.specs.Prelude.{◌≡◌, true, false, ℕ, suc, ◌≤◌, ◌<◌, length, Some};
 ghost use Rattle.laws.specs.Finite.{any_below};
-ghost use Rattle.hall.specs.Hall.{Hall, row, count};
+ghost use Rattle.hall.specs.Hall.{Hall, row};
+ghost use Rattle.potentials.specs.Flip.{put};
 ghost use Rattle.potentials.specs.Repair.{Repaired};
 ghost use Rattle.order.specs.Ranked.{charge};
 ghost use Rattle.columns.specs.Columns.{flagged};
 ghost use Rattle.refusals.specs.Kinds.{answered, figure};
 ghost use Rattle.forcing.specs.Figures.{LeastTotal, FiguresOf};
-ghost use Rattle.forcing.specs.Recosted.{recosted};
 ghost use Rattle.plan.specs.Ready.{Accepted};
 ghost use Rattle.withwithout.specs.Figures.{with_number, without_number, FiguresAs, FiguresSays};
-ghost use Rattle.withwithout.specs.Least.{LeastPlanOf, figures_of};
+ghost use Rattle.withwithout.specs.Least.{LeastPlanOf, figures_of, barred};
 
 use columns::Costs;
 use hallfile::HallRecord;
@@ -93,7 +93,7 @@ impl<'a> LeastPlan<'a> {
     // A choice of least cost where the row at place k costs so much.
     fn repriced(&self, k: usize, cost: u64) -> [bool; 256]
         requires { (k < self.now.hall.now.lanes.count) × (cost ≤ 256000001) × ((h : Hall) × LeastPlanOf h self.now) }
-        ensures { (h : Hall) → LeastPlanOf h self.now → (p : ℕ → ℕ) × Repaired h (recosted (suc k) cost (charge h)) p (flagged result) }
+        ensures { (h : Hall) → LeastPlanOf h self.now → (p : ℕ → ℕ) × Repaired h (put (suc k) cost (charge h)) p (flagged result) }
     {
         reprice::reprice(&self.hall.lanes, &self.charges, &self.state, k, cost).chosen
     }
@@ -110,8 +110,7 @@ impl<'a> LeastPlan<'a> {
 
     // Whether the row at place k, or a fixed one, is chosen.
     fn has_barred(&self, chosen: &[bool; 256], k: usize) -> bool
-        ensures { result ≡ any_below self.now.hall.now.lanes.count
-            (λ (i : ℕ). get_or chosen.now i false && (get_or self.now.hall.now.fixed i false || eqb i k)) }
+        ensures { result ≡ any_below self.now.hall.now.lanes.count (barred chosen.now self.now.hall.now.fixed k) }
     {
         for i in 0..self.hall.lanes.count {
             if chosen[i] & (self.hall.fixed[i] | (i == k)) {

@@ -5,9 +5,9 @@ use lib.ListN.{get_or}
 use Rattle.std.proofs.Common.{rules, suc, arith}
 use Rattle.hall.specs.Hall.{Hall}
 use Rattle.reprice.specs.Reprice.{Repriceable}
-use Rattle.reprice.proofs.Repricing.{Repricing, repricing}
+use Rattle.reprice.proofs.Repricing.{Repricing, Repriced, repricing}
 use Rattle.reprice.proofs.reprice.Goals as goal
-use Rattle.reprice.proofs.reprice.Goals.{After-lane-tail, After-shut}
+use Rattle.reprice.proofs.reprice.Goals.{After-lane-tail, After-shut, After-repair}
 
 -- the level of the row's tail
 tail_low : (c : After-lane-tail) → get_or c.args.state.now.potential c.lane-tail.result.tail 0 < 2 ^ 61
@@ -29,6 +29,14 @@ changed c h ready = let a = c.args in let lane = c.lane-tail in
 pub repair-requires : goal.repair-requires
 repair-requires c = (changed (goal.at.repair-requires c).After-shut c.requires.1.0 c.requires.1.1).start
 
-pub returns : goal.returns
-returns c = λ h ready. let w = changed (goal.at.returns c).After-shut h ready in
+-- where repair has ended
+ended : (c : After-repair) (h : Hall) → Repriceable h c.args.lanes.now c.args.costs.now.rows c.args.state.now (suc c.args.k) c.args.cost →
+    Repriced h c.args.costs.now.rows c.args.k c.args.cost c.repair.result
+ended c h ready = let w = changed (goal.at.After-repair c).After-shut h ready in
     w.end c.repair.result (c.repair.ensures h ready.columns ready.ranged w.can ready.around)
+
+pub returns : goal.returns
+returns c = record {
+  repaired = λ h ready. (ended c h ready).repaired;
+  around = λ h ready. (ended c h ready).around;
+}

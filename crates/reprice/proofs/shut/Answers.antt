@@ -6,7 +6,7 @@ use lib.ListN.{set, length-set, get_or-eq_default}
 use lib.Seq.{get_or-set_same, get_or-set_other}
 use borrow.Author.Count.{below_more}
 use borrow.Author.Tests.{ltb-true, ltb-false}
-use Rattle.forcing.specs.Recosted.{shut}
+use Rattle.forcing.specs.Shut.{shut}
 use Rattle.reprice.proofs.shut.Goals as goal
 
 pub loop-k-init : goal.loop-k-init

@@ -1,6 +1,6 @@
 -- `reprice::shut` goes over the levels. The invariant: the first k are shut. Assumes nothing.
 use Rattle.std.proofs.Common.{◌≡◌, ℕ, ◌<◌, get_or, length}
-use Rattle.forcing.specs.Recosted.{shut}
+use Rattle.forcing.specs.Shut.{shut}
 use Rattle.reprice.proofs.shut.Given as goal
 
 abbrev pub invariant-loop-k : goal.invariant-loop-k

@@ -11,5 +11,5 @@ pub returns : goal.returns
 returns c = λ h of. let r = c.reprice.result in (
   at r.potential,
   repriced_charges h c.args.self.now of c.args.k c.requires.0 c.args.cost (at r.potential) (flagged r.chosen)
-      (c.reprice.ensures h (repriceable h c.args.self.now of c.args.k c.requires.0 c.args.cost c.requires.1)),
+      (c.reprice.ensures.repaired h (repriceable h c.args.self.now of c.args.k c.requires.0 c.args.cost c.requires.1)),
 )
