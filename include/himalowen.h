@@ -21,13 +21,14 @@
 extern "C" {
 #endif
 
-/* The number of places of each reply, and the least number of places of each list lent to a plan, a route or for figures. */
+/* The number of places of each reply, and the least number of places of each list lent to a plan, to a route or to
+ * himalowen_with_without. */
 enum {
     HIMALOWEN_TOLD_PLACES = 4,
     HIMALOWEN_ROUTED_PLACES = 5,
     HIMALOWEN_SCREENED_PLACES = 4,
     HIMALOWEN_PLANNED_PLACES = 4,
-    HIMALOWEN_FIGURED_PLACES = 3,
+    HIMALOWEN_TOTALS_PLACES = 3,
     HIMALOWEN_ROW_PLACES = 256,
     HIMALOWEN_CUT_PLACES = 125,
     HIMALOWEN_LEVEL_PLACES = 64,
@@ -49,8 +50,8 @@ enum { HIMALOWEN_CHOSEN = 2, HIMALOWEN_TOTAL = 3 };
 /* Places of the reply of himalowen_plan_cuts: how many cuts, and how many levels, are filled in. */
 enum { HIMALOWEN_CUTS = 2, HIMALOWEN_LEVELS = 3 };
 
-/* Place of the reply of himalowen_with_without: of how many rows the figures are filled in. */
-enum { HIMALOWEN_FIGURES = 2 };
+/* Place of the reply of himalowen_with_without: of how many rows the totals are filled in. */
+enum { HIMALOWEN_ROWS_FILLED = 2 };
 
 /* What stands in the lists of himalowen_with_without instead of totals: in the second for a row that every joining choice has,
  * and in both for a fixed row. */
@@ -111,7 +112,7 @@ uint32_t himalowen_plan_cuts(const uint8_t *file, size_t file_length,
 uint32_t himalowen_with_without(const uint8_t *file, size_t file_length,
                                 uint32_t *with, size_t with_length,
                                 uint32_t *without, size_t without_length,
-                                uint64_t reply[HIMALOWEN_FIGURED_PLACES]);
+                                uint64_t reply[HIMALOWEN_TOTALS_PLACES]);
 
 #ifdef __cplusplus
 }

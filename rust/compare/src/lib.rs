@@ -111,9 +111,14 @@ macro_rules! planner {
     }};
 }
 
+/// The plain Rust.
+pub fn plain() -> Planner {
+    planner!("reference", reference)
+}
+
 pub fn planners() -> Vec<Planner> {
     vec![
-        planner!("reference", reference),
+        plain(),
         #[cfg(feature = "library")]
         planner!("library", himalowen),
     ]

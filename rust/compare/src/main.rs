@@ -22,30 +22,30 @@ fn suite(what: impl Into<String>, files: impl Iterator<Item = Vec<u8>> + 'static
     Suite { what: what.into(), files: Box::new(files), test }
 }
 
-/// How many figures of rows that are opened, and of others, are shown of a hall that is not small.
+/// Of how many rows that are opened, and of how many others, the totals are shown in a hall that is not small.
 const SOME: usize = 3;
 
 const PLAN: Test = |planner, file, _| plan(planner, file);
 
 const FIRST_PLAN: Test = |planner, file, _| first_plan(planner, file);
 
-const FIGURES: Test = |planner, file, seed| with_without(planner, file, seed, SOME);
+const TOTALS: Test = |planner, file, seed| with_without(planner, file, seed, SOME);
 
-const EVERY_FIGURE: Test = |planner, file, seed| with_without(planner, file, seed, 256);
+const EVERY_TOTAL: Test = |planner, file, seed| with_without(planner, file, seed, 256);
 
-const PLAN_AND_FIGURES_OF_SMALL: Test = |planner, file, seed| {
+const PLAN_AND_TOTALS_OF_SMALL: Test = |planner, file, seed| {
     small_plan(planner, file)?;
-    FIGURES(planner, file, seed)
+    TOTALS(planner, file, seed)
 };
 
 const ALL_OF_SMALL: Test = |planner, file, seed| {
-    PLAN_AND_FIGURES_OF_SMALL(planner, file, seed)?;
+    PLAN_AND_TOTALS_OF_SMALL(planner, file, seed)?;
     calls_with_a_choice(planner, file, seed)
 };
 
 const ALL: Test = |planner, file, seed| {
     plan(planner, file)?;
-    FIGURES(planner, file, seed)?;
+    TOTALS(planner, file, seed)?;
     calls_with_a_choice(planner, file, seed)
 };
 
@@ -79,8 +79,8 @@ fn suites(times: u64) -> Vec<Suite> {
         suites.push(suite(what, all_halls(n, rows, prices), ALL_OF_SMALL));
     }
     for (n, rows, prices) in [(3, 4, 3), (3, 5, 1), (4, 4, 1)] {
-        let what = format!("plans and figures: {n} junctions, {rows} rows, fixed or below {prices}");
-        suites.push(suite(what, all_halls(n, rows, prices), PLAN_AND_FIGURES_OF_SMALL));
+        let what = format!("plans and totals: {n} junctions, {rows} rows, fixed or below {prices}");
+        suites.push(suite(what, all_halls(n, rows, prices), PLAN_AND_TOTALS_OF_SMALL));
     }
     let drawn = starred().into_iter().chain(fixed_halls()).chain(sized_files());
     suites.push(suite("every route: halls drawn by hand, halls at the limits", drawn, every_route));
@@ -104,7 +104,7 @@ fn suites(times: u64) -> Vec<Suite> {
     }
     for (n, rows, count) in [(16, 48, 300), (64, 256, 30)] {
         let files = (0..count * times).map(move |seed| random_hall(n, rows, seed));
-        suites.push(suite(format!("every figure: up to {n} junctions and {rows} rows"), files, EVERY_FIGURE));
+        suites.push(suite(format!("every total: up to {n} junctions and {rows} rows"), files, EVERY_TOTAL));
     }
     for (n, rows, count) in [(6, 10, 40_000), (8, 16, 1_000), (8, 32, 1_000), (12, 30, 1_000)] {
         let files = (0..count * times).map(move |seed| random_hall(n, rows, seed));
@@ -124,7 +124,7 @@ fn suites(times: u64) -> Vec<Suite> {
         suites.push(suite(format!("{what}, 8 junctions"), of_kinds(draw, 8, 12 * times), ALL_OF_SMALL));
         suites.push(suite(format!("every route: {what}, 64 junctions"), of_kinds(draw, 64, times), every_route));
         suites.push(suite(format!("one quote: {what}, 64 junctions"), of_kinds(draw, 64, 12 * times), quotes));
-        suites.push(suite(format!("every figure: {what}, 64 junctions"), of_kinds(draw, 64, times), EVERY_FIGURE));
+        suites.push(suite(format!("every total: {what}, 64 junctions"), of_kinds(draw, 64, times), EVERY_TOTAL));
         for n in [16, 32, 64] {
             suites.push(suite(format!("{what}, {n} junctions"), of_kinds(draw, n, 12 * times), ALL));
             suites.push(suite(

@@ -26,7 +26,7 @@ pub fn quotes(planner: &Planner, file: &[u8], seed: u64) -> Outcome {
 fn judged_plan(planner: &Planner, file: &[u8]) -> Result<oracle::Plan, String> {
     let (hall, choice, total) = planned(planner, file)?.ok_or("the hall is refused")?;
     let plan = (choice, total);
-    if hall.n <= 8 && hall.rows.len() <= 16 {
+    if hall.n <= 8 && hall.rows.len() <= oracle::FEW {
         same("choice and total", &plan, &oracle::first_choice(&hall))?;
     }
     Ok(plan)

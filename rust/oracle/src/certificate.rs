@@ -1,6 +1,6 @@
 //! Certificates of a plan, for halls of any size: what must hold of a choice, its cuts and its levels.
 
-use crate::hall::{entering, enters, everything, is_cut, Hall};
+use crate::hall::{entering, enters, everything, is_cut, total, Hall};
 use crate::{holds, is_choice, missed};
 
 /// A plan as it was given.
@@ -18,7 +18,7 @@ pub fn faults(hall: &Hall, claim: &Claim) -> Vec<&'static str> {
         return vec!["the rows are no choice"];
     }
     let cuts: Vec<(u64, u64)> = claim.shores.iter().copied().zip(claim.weights.iter().map(|&w| w.into())).collect();
-    let total: u64 = claim.rows.iter().map(|&i| hall.rows[i as usize - 1].price).sum();
+    let total = total(hall, claim.rows);
     let load = |shore_holds: &dyn Fn(u64) -> bool| -> u64 {
         cuts.iter().filter(|(shore, _)| shore_holds(*shore)).map(|(_, weight)| weight).sum()
     };

@@ -1,13 +1,10 @@
 //! Whether a choice costs more than a figure: the whole sum is compared, and so is that of each number of rows from the front.
 
-use crate::{hall_and_choice, Hall};
+use crate::hall::total;
+use crate::hall_and_choice;
 
 /// The reply: number, row, over (1 or 0), and how many rows are read.
 pub type Screened = [u64; 4];
-
-fn total(hall: &Hall, rows: &[u32]) -> u64 {
-    rows.iter().map(|&i| hall.rows[i as usize - 1].price).sum()
-}
 
 /// What the first rows cost, for each number of them from 0 to all; nothing where the list is no choice of the file's hall.
 pub fn sums(bytes: &[u8], choice: &[u32]) -> Vec<u64> {

@@ -2,7 +2,7 @@
 //! a choice and cuts for the costs that it is asked about, and nothing is believed of it but what they show.
 
 use crate::first::bound;
-use crate::hall::Hall;
+use crate::hall::{total, Hall};
 use crate::quote::Plan;
 use crate::small::joining_choices;
 use crate::{arcs, came_by, hall_in, is_choice, missed, unfixed, Refusal, Row};
@@ -69,7 +69,7 @@ pub fn figures_by_trying(hall: &Hall) -> Vec<Figures> {
     let mut least = vec![[None; 2]; hall.rows.len()];
     for choice in joining_choices(hall) {
         let has = |i: u32| choice >> (i - 1) & 1 == 1;
-        let total: u64 = unfixed.iter().filter(|&&i| has(i)).map(|&i| price(hall, i)).sum();
+        let total = total(hall, unfixed.iter().filter(|&&i| has(i)));
         for &i in &unfixed {
             let least = &mut least[i as usize - 1][usize::from(has(i))];
             *least = Some(least.map_or(total, |least| total.min(least)));
@@ -80,10 +80,6 @@ pub fn figures_by_trying(hall: &Hall) -> Vec<Figures> {
         None => Figures::Fixed,
     };
     least.into_iter().map(of_row).collect()
-}
-
-fn price(hall: &Hall, row: u32) -> u64 {
-    hall.rows[row as usize - 1].price
 }
 
 /// What a joining choice costs at the least, if it has none of the rows without a cost: the planner's costs so much, and no
@@ -106,7 +102,7 @@ pub fn figures_by_showing(hall: &Hall, row: u32, planner: &impl Fn(&[u64]) -> Ch
         let cost = |(i, other): (u32, &Row)| if i == row { own } else { (!other.fixed).then_some(other.price) };
         shown_least(hall, &(1..).zip(&hall.rows).map(cost).collect::<Vec<_>>(), planner)
     };
-    let with = least_at(Some(0))? + price(hall, row);
+    let with = least_at(Some(0))? + hall.rows[row as usize - 1].price;
     let without = if is_needed(hall, row) { None } else { Some(least_at(None)?) };
     Some(Figures::Totals { with, without })
 }

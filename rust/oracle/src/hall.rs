@@ -31,6 +31,11 @@ pub fn unfixed(hall: &Hall) -> Vec<u32> {
     (1..).zip(&hall.rows).filter(|(_, row)| !row.fixed).map(|(i, _)| i).collect()
 }
 
+/// What the listed rows cost together.
+pub fn total<'a>(hall: &Hall, rows: impl IntoIterator<Item = &'a u32>) -> u64 {
+    rows.into_iter().map(|&i| hall.rows[i as usize - 1].price).sum()
+}
+
 /// How many pieces the junctions make, directions ignored: each row makes its two ends' pieces one.
 fn pieces(n: u64, rows: &[Row]) -> usize {
     let mut piece: Vec<u64> = (0..=n).collect();

@@ -1,6 +1,6 @@
 //! Small halls: every shore, every choice.
 
-use crate::hall::{entering, enters, everything, is_cut, Hall};
+use crate::hall::{entering, enters, everything, is_cut, total, Hall};
 use crate::holds;
 
 /// Halls of up to so many junctions are tried out whole.
@@ -43,7 +43,7 @@ type Rank = (u64, usize, Vec<u32>);
 
 fn rank(hall: &Hall, choice: u64) -> Rank {
     let numbers: Vec<u32> = (1..=hall.rows.len() as u32).filter(|i| choice >> (i - 1) & 1 == 1).collect();
-    (numbers.iter().map(|&i| hall.rows[i as usize - 1].price).sum(), numbers.len(), numbers)
+    (total(hall, &numbers), numbers.len(), numbers)
 }
 
 /// The first joining choice without fixed rows and its total, in halls of up to 64 rows: every set of rows is tried, or, of

@@ -5,8 +5,8 @@
 //!     oracle tight FILE ROWS JUNCTION    AROUND with the set, MISSES, or REFUSED
 //!     oracle route FILE ROWS FROM TO     ROUTE with the rows, below 0 if run backward, MISSES, or REFUSED
 //!     oracle figure FILE ROWS FIGURE     OVER or WITHIN, and how many rows are read, or REFUSED
-//!     oracle totals FILE                 for each row its number and the least totals with it and without it, or NONE, or
-//!                                        FIXED; or REFUSED
+//!     oracle totals FILE                 ROWS n, and a line for each: its number and the least totals with it and without
+//!                                        it, or NONE, or FIXED; or REFUSED
 //!     oracle plan FILE                   the first joining choice: OPEN, its rows, TOTAL; or REFUSED
 //!     oracle list FILE                   a right printed list
 //!     oracle judge FILE LIST             RIGHT, or what is wrong with a printed list
