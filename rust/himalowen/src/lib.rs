@@ -91,9 +91,9 @@ pub struct Cuts {
     pub levels: Vec<i32>,
 }
 
-/// What is least with a row and without it.
+/// A row's figures.
 #[derive(Clone, Copy, Debug, PartialEq, Eq)]
-pub enum Least {
+pub enum Figures {
     /// The row is fixed: no choice has it.
     Fixed,
     /// The least total of the joining choices with the row, and of those without it, unless every joining choice has it.
@@ -188,16 +188,16 @@ pub fn with_without_into(file: &[u8], with: &mut [u32], without: &mut [u32]) -> 
 
 /// The same for row after row. The smaller total of a row, or its only one, is the plan's; a row that the plan opens has it
 /// as the first.
-pub fn with_without(file: &[u8]) -> Result<Vec<Least>, Refusal> {
+pub fn with_without(file: &[u8]) -> Result<Vec<Figures>, Refusal> {
     let (mut with, mut without) = ([0; ROW_PLACES], [0; ROW_PLACES]);
     let filled = with_without_into(file, &mut with, &mut without)?;
-    Ok(with.iter().zip(&without).take(filled).map(|(&with, &without)| least(with, without)).collect())
+    Ok(with.iter().zip(&without).take(filled).map(|(&with, &without)| figures(with, without)).collect())
 }
 
-fn least(with: u32, without: u32) -> Least {
+fn figures(with: u32, without: u32) -> Figures {
     match with {
-        FIXED => Least::Fixed,
-        _ => Least::Totals { with, without: (without != NONE).then_some(without) },
+        FIXED => Figures::Fixed,
+        _ => Figures::Totals { with, without: (without != NONE).then_some(without) },
     }
 }
 

@@ -1,7 +1,7 @@
 //! Totals with and without each row of a hall: from 1 to 3 by rows 1 and 2 or by row 3, beside which row 4 is fixed; row 5 is a
 //! loop, and row 6 alone leads to 4.
 
-use himalowen::{plan_rows, with_without, with_without_into, Least, Refusal, FIXED, NONE, ROW_PLACES};
+use himalowen::{plan_rows, with_without, with_without_into, Figures, Refusal, FIXED, NONE, ROW_PLACES};
 
 const SIX_ROWS: &[u8] = include_bytes!("../../../samples/six-rows.hall");
 
@@ -17,15 +17,15 @@ fn hall(n: u8, rows: &[[u32; 3]]) -> Vec<u8> {
     file
 }
 
-fn totals(with: u32, without: impl Into<Option<u32>>) -> Least {
-    Least::Totals { with, without: without.into() }
+fn totals(with: u32, without: impl Into<Option<u32>>) -> Figures {
+    Figures::Totals { with, without: without.into() }
 }
 
 #[test]
 fn each_row_has_its_totals() {
     assert_eq!(plan_rows(SIX_ROWS).expect("a hall").rows, [1, 2, 6]);
-    let least = [totals(6, 7), totals(6, 7), totals(7, 6), Least::Fixed, totals(11, 6), totals(6, None)];
-    assert_eq!(with_without(SIX_ROWS), Ok(least.to_vec()));
+    let figures = [totals(6, 7), totals(6, 7), totals(7, 6), Figures::Fixed, totals(11, 6), totals(6, None)];
+    assert_eq!(with_without(SIX_ROWS), Ok(figures.to_vec()));
 }
 
 #[test]
