@@ -1,10 +1,11 @@
 // The calls of the C library, as include/himalowen.h declares them: a reply is an array of numbers, in the order of its fields. `himalowen_c` exports them.
 #![tactic(auto)]
 
-ghost use Rattle.std.specs.Prelude.{◌≡◌, [], ◌∷◌, ℕ, ◌-◌, ◌≤◌, replicate};
+ghost use Rattle.std.specs.Prelude.{◌≡◌, [], ◌∷◌, ◌-◌, ◌≤◌, replicate};
 ghost use Rattle.refusals.specs.Kinds.{refusal_of, answered, figure};
 ghost use Rattle.planrows.specs.declared.PlannedRows.{PlannedRows};
 ghost use Rattle.planpairs.specs.declared.PlannedCuts.{PlannedCuts};
+ghost use Rattle.withwithout.specs.declared.Filled.{Filled};
 ghost use Rattle.himalowen.specs.Replies.{CheckLeaves, TightLeaves, RouteLeaves, FigureLeaves, RowsLeaves, PairLeaves, FiguresLeaves, told_places, routed_places, screened_places};
 
 use answers::Finding;
@@ -13,6 +14,7 @@ use planrows::PlannedRows;
 use refusals::Kind;
 use routing::Way;
 use screening::Screened;
+use withwithout::Filled;
 
 // The number of a reply's refusal, 0 for none: C callers read a number.
 #[tactic(auto, unfolding(refusals::specs::Kinds::answered, hall::specs::File::refusal))]
@@ -90,11 +92,11 @@ fn cuts_places(planned: Result<PlannedCuts, Kind>) -> [u64; 4]
 }
 
 #[tactic(auto, unfolding(refusals::specs::Kinds::answered, refusals::specs::Kinds::figure, hall::specs::File::refusal))]
-fn figures_places(filled: Result<usize, Kind>) -> [u64; 3]
-    ensures { result ≡ (answered filled).number ∷ (answered filled).place ∷ figure (λ (k : ℕ). k) filled ∷ [] }
+fn figures_places(filled: Result<Filled, Kind>) -> [u64; 3]
+    ensures { result ≡ (answered filled).number ∷ (answered filled).place ∷ figure (λ (p : Filled). p.rows) filled ∷ [] }
 {
     match filled {
-        Ok(rows) => [0, 0, rows as u64],
+        Ok(filled) => [0, 0, filled.rows as u64],
         Err(kind) => refused(kind),
     }
 }

@@ -16,11 +16,12 @@ use Rattle.refusals.proofs.Numbers.{kind_number}
 use Rattle.opening.specs.Choice.{room_for}
 use Rattle.opening.proofs.Room.{room_short, room_enough}
 use Rattle.withwithout.specs.Figures.{FiguresAs, FiguresSays}
+use Rattle.withwithout.specs.declared.Filled.{Filled}
 
 module _ (bs a b : List ℕ) where
   -- what the call says of a reply
-  abbrev pub Says : Result ℕ Kind → (x y : List ℕ) → Type 0
-  Says r x y = FiguresSays bs (answered r) (figure (λ (k : ℕ). k) r) a x b y
+  abbrev pub Says : Result Filled Kind → (x y : List ℕ) → Type 0
+  Says r x y = FiguresSays bs (answered r) (figure (λ (p : Filled). p.rows) r) a x b y
 
   -- no list is too short
   abbrev Room : Type 0
@@ -52,6 +53,6 @@ module _ (bs a b : List ℕ) where
     pub says_refused : (k : Kind) → refusal_of k ≡ hall_refusal bs → Says (Err k) a b
     says_refused k e = says_err k (e ∙ sym past_room)
 
-    pub says_figures : refusal 0 0 ≡ hall_refusal bs → (k : ℕ) (x y : List ℕ) → FiguresAs 0 (hall_in bs) k a x b y → Says (Ok k) x y
+    pub says_figures : refusal 0 0 ≡ hall_refusal bs → (r : Filled) (x y : List ℕ) → FiguresAs 0 (hall_in bs) r.rows a x b y → Says (Ok r) x y
     unfolding FiguresSays answered figure refusal
-    says_figures fine k x y figures = (fine ∙ sym past_room, figures)
+    says_figures fine r x y figures = (fine ∙ sym past_room, figures)

@@ -13,6 +13,7 @@ ghost use Rattle.refusals.specs.Kinds.{answered, figure};
 ghost use Rattle.forcing.specs.Figures.{LeastTotal, FiguresOf};
 ghost use Rattle.plan.specs.Ready.{Accepted};
 ghost use Rattle.withwithout.specs.Figures.{with_number, without_number, FiguresAs, FiguresSays};
+ghost use Rattle.withwithout.specs.declared.Filled.{Filled};
 ghost use Rattle.withwithout.specs.Least.{LeastPlanOf, figures_of, barred};
 
 use columns::Costs;
@@ -21,6 +22,7 @@ use ledger::costs;
 use ledger::listing::total_of;
 use refusals::Kind;
 use repair::State;
+use std::fmt;
 
 // What stands in both lists for a fixed row.
 pub const FIXED_ROW: u32 = 0xFFFF_FFFE;
@@ -36,6 +38,25 @@ pub enum Figures {
 }
 
 impl Figures {
+    // The figures that stand so in the two lists.
+    #[tactic(auto, unfolding(crate::specs::Least::figures_of, crate::specs::Figures::with_number, crate::specs::Figures::without_number))]
+    pub fn of_numbers(with: u32, without: u32) -> Figures
+        ensures with { with_number (figures_of result) ≡ with }
+        ensures without { without_number (figures_of result) ≡ without }
+    {
+        match (with, without) {
+            (FIXED_ROW, FIXED_ROW) => Figures::Fixed,
+            (_, NO_TOTAL) => Figures::Totals {
+                with,
+                without: None,
+            },
+            (_, total) => Figures::Totals {
+                with,
+                without: Some(total),
+            },
+        }
+    }
+
     // What stands in the first list: C callers read a number.
     #[tactic(auto, unfolding(crate::specs::Least::figures_of, crate::specs::Figures::with_number))]
     pub fn with(self) -> u32
@@ -60,6 +81,34 @@ impl Figures {
                 ..
             } => total,
         }
+    }
+}
+
+impl fmt::Display for Figures {
+    fn fmt<W: fmt::Write>(&self, f: &mut fmt::Formatter<W>) -> fmt::Result {
+        match self {
+            Figures::Fixed => write!(f, "FIXED"),
+            Figures::Totals {
+                with,
+                without: None,
+            } => write!(f, "{with} NONE"),
+            Figures::Totals {
+                with,
+                without: Some(total),
+            } => write!(f, "{with} {total}"),
+        }
+    }
+}
+
+// The reply: how many rows have their figures in the two lists.
+#[derive(Clone, Copy, PartialEq, Eq, Debug)]
+pub struct Filled {
+    pub rows: usize,
+}
+
+impl fmt::Display for Filled {
+    fn fmt<W: fmt::Write>(&self, f: &mut fmt::Formatter<W>) -> fmt::Result {
+        write!(f, "ROWS {}", self.rows)
     }
 }
 
@@ -168,8 +217,8 @@ fn list_figures(plan: &LeastPlan<'_>, with: &mut [u32], without: &mut [u32])
 
 // For each row the least totals of a joining choice with it and of one without it, into its places of two lists of at least 256, and how
 // many rows there are: refusal 1, then 2 to 9 and 15.
-pub fn with_without(file: &[u8], with: &mut [u32], without: &mut [u32]) -> Result<usize, Kind>
-    ensures { FiguresSays file.now (answered result) (figure (λ (k : ℕ). k) result) with.old with.new without.old without.new }
+pub fn with_without(file: &[u8], with: &mut [u32], without: &mut [u32]) -> Result<Filled, Kind>
+    ensures { FiguresSays file.now (answered result) (figure (λ (p : Filled). p.rows) result) with.old with.new without.old without.new }
 {
     if with.len() < 256 || without.len() < 256 {
         return Err(Kind::ListShort);
@@ -177,5 +226,7 @@ pub fn with_without(file: &[u8], with: &mut [u32], without: &mut [u32]) -> Resul
     let hall = hallfile::read_hall(file)?;
     let plan = LeastPlan::of(&hall);
     list_figures(&plan, with, without);
-    Ok(plan.hall.lanes.count)
+    Ok(Filled {
+        rows: plan.hall.lanes.count,
+    })
 }
