@@ -38,16 +38,17 @@ module _ (h : Hall) (a b : List ℕ) where
 
   module _ (k : ℕ) (x y : List ℕ) (so_far : Listed h k a x b y) where
     pub listed_next :
-        (g : Figures) → FiguresOf h (suc k) g → k < length a → k < length b → Listed h (k + 1) a (set x k (with_number g)) b (set y k (without_number g))
-    listed_next g is room_a room_b =
+        (g : Figures) → FiguresOf h (suc k) g → (v w : ℕ) → v ≡ with_number g → w ≡ without_number g → k < length a → k < length b →
+        Listed h (k + 1) a (set x k v) b (set y k w)
+    listed_next g is v w v_is w_is room_a room_b =
         let gs = so_far.figures in record {
           figures = gs ++ (g ∷ []);
           size = omega (arith, length-append gs (g ∷ []), so_far.size);
           are = below_more (λ (i : ℕ). FiguresOf h (suc i) (get_or (gs ++ (g ∷ [])) i is_fixed)) k
               (λ i l. rw (get_or-append gs (g ∷ []) is_fixed i (omega (arith, l, so_far.size))) (so_far.are i l))
               (rw (sym so_far.size) (rw (get_or-append_seam gs g [] is_fixed) (rw so_far.size is)));
-          first = front_next with_number gs g a x k so_far.size room_a so_far.first;
-          second = front_next without_number gs g b y k so_far.size room_b so_far.second;
+          first = ap (λ (n : ℕ). set x k n) v_is ∙ front_next with_number gs g a x k so_far.size room_a so_far.first;
+          second = ap (λ (n : ℕ). set y k n) w_is ∙ front_next without_number gs g b y k so_far.size room_b so_far.second;
         }
 
     -- the figures of all rows

@@ -10,9 +10,9 @@ loop-k-init c = λ h of. listed_none h c.args.with.now c.args.without.now
 
 pub loop-k-preserved : goal.loop-k-preserved
 loop-k-preserved c = λ h of. let k = c.loop-k.k in let few = c.args.plan.now.hall.now.lanes.ends.few in
-    rw (c.with.ensures, c.without.ensures)
-    (listed_next h c.args.with.now c.args.without.now k c.loop-k.with c.loop-k.without (c.loop-k.invariant h of) (figures_of c.figures-figures.result) (c.figures-figures.ensures h of)
-    (omega (arith, c.requires.0, c.loop-k-test.true, few)) (omega (arith, c.requires.1, c.loop-k-test.true, few)))
+    listed_next h c.args.with.now c.args.without.now k c.loop-k.with c.loop-k.without (c.loop-k.invariant h of) (figures_of c.figures-figures.result)
+    (c.figures-figures.ensures h of) c.with.result c.without.result c.with.ensures c.without.ensures
+    (omega (arith, c.requires.0, c.loop-k-test.true, few)) (omega (arith, c.requires.1, c.loop-k-test.true, few))
 
 pub returns : goal.returns
 returns c = λ h of. let a = c.args in let rows = a.plan.now.hall.now.lanes.count in
