@@ -31,7 +31,7 @@ pub const FIXED_ROW: u32 = 0xFFFF_FFFE;
 pub const NO_TOTAL: u32 = 0xFFFF_FFFF;
 
 // A row's figures: it is fixed, or the least total with it, and that without it where there is one.
-#[derive(Clone, Copy, PartialEq, Eq, Debug)]
+#[derive(Clone, Copy)]
 pub enum Figures {
     Fixed,
     Totals { with: u32, without: Option<u32> },
@@ -101,7 +101,7 @@ impl fmt::Display for Figures {
 }
 
 // The reply: how many rows have their figures in the two lists.
-#[derive(Clone, Copy, PartialEq, Eq, Debug)]
+#[derive(Clone, Copy)]
 pub struct Filled {
     pub rows: usize,
 }
