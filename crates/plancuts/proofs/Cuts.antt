@@ -1,23 +1,20 @@
 -- What the cuts' call leaves in two number lists is what it promises with its cuts lent as structs. Assumes nothing.
 use mathlib.Core.Path.{◌≡◌, refl, sym, ap, ap₂, ◌∙◌}
-use mathlib.Core.Bool.{false}
 use mathlib.Core.List.{List, map}
-use Prim.Native.Nat.{ℕ, zero, suc, ◌≤◌, ◌<◌}
+use Prim.Native.Nat.{ℕ, ◌≤◌, ◌<◌}
 use native.Mathlib.Omega.{arith}
-use lib.Dec.{eqb}
 use lib.IntN.{ℤ}
 use lib.ListN.{length, take, length-map}
 use Rattle.std.specs.Prelude.{Result, Ok, Err}
 use Rattle.laws.specs.Lists.{in_front}
-use Rattle.laws.proofs.Booleans.{clash}
 use Rattle.laws.proofs.Lists.{front_fits, front_are}
 use Rattle.hall.specs.File.{hall_in, hall_refusal, refusal}
 use Rattle.hall.specs.Plan as plan
 use Rattle.refusals.specs.declared.Kind.{Kind}
 use Rattle.refusals.specs.declared.Kind.TheVariants.{ListShort}
 use Rattle.refusals.specs.Kinds.{refusal_of, answered, figure}
-use Rattle.refusals.proofs.Numbers.{kind_number}
 use Rattle.opening.specs.Choice.{room_for}
+use Rattle.opening.proofs.Refused.{of_refused}
 use Rattle.opening.proofs.Room.{room_short, room_enough}
 use Rattle.cutlist.specs.declared.Cut.{Cut}
 use Rattle.cutlist.specs.Cuts.{lent, lent_cuts}
@@ -39,17 +36,12 @@ module _ (bs : List ℕ) (b : List Cut) (d : List ℤ) where
   abbrev pub Says : Result PlannedCuts Kind → (z : List Cut) → (w : List ℤ) → Type 0
   Says r z w = CutsSays lent bs (answered r) (figure (λ (p : PlannedCuts). p.cuts) r) (figure (λ (p : PlannedCuts). p.levels) r) b z d w
 
-  short_as : (n : ℕ) → eqb n 0 ≡ false → CutsAs lent n (hall_in bs) 0 0 b b d d
-  unfolding CutsAs
-  short_as zero f = clash refl f
-  short_as (suc n) f = (refl, refl, refl, refl)
-
   -- a list of cuts that is too short
   pub says_short : length b < 125 → Says (Err ListShort) b d
-  unfolding CutsSays answered figure refusal_of refusal
+  unfolding CutsSays CutsAs answered figure refusal_of refusal
   says_short l = (
     sym (room_short 125 (length b) (room_for 64 (length d) (hall_refusal bs)) l),
-    short_as 1 refl,
+    of_refused (λ n. CutsAs lent n (hall_in bs) 0 0 b b d d) (λ n. (refl, refl, refl, refl)) ListShort (refusal 1 0) refl,
   )
 
   -- two lists of 125 places
@@ -64,14 +56,12 @@ module _ (bs : List ℕ) (b : List Cut) (d : List ℤ) where
         room_enough 125 (length p) (room_for 125 (length q) rest) (omega (arith, p_size)) ∙ room_enough 125 (length q) rest (omega (arith, q_size))
         ∙ sym (room_enough 125 (length b) rest wide)
 
-    refused_as : (n : ℕ) → eqb n 0 ≡ false → PairAs n (hall_in bs) 0 0 p x q y d w → CutsAs lent n (hall_in bs) 0 0 b b d w
-    unfolding CutsAs PairAs
-    refused_as zero f was = clash refl f
-    refused_as (suc n) f was = (refl, refl, refl, was.4)
-
     pub says_refused : (k : Kind) → SaysPairs (Err k) → Says (Err k) b w
-    unfolding PairSays CutsSays answered figure
-    says_refused k (why, was) = (why ∙ same_refusal, refused_as (refusal_of k).number (kind_number k).0 was)
+    unfolding PairSays CutsSays PairAs CutsAs answered figure
+    says_refused k (why, was) = (
+      why ∙ same_refusal,
+      of_refused (λ n. PairAs n (hall_in bs) 0 0 p x q y d w → CutsAs lent n (hall_in bs) 0 0 b b d w) (λ n left. (refl, refl, refl, left.4)) k (refusal_of k) refl was,
+    )
 
     module _ (c : PlannedCuts) where
       pub few : SaysPairs (Ok c) → c.cuts ≤ length x

@@ -2,23 +2,20 @@
 use mathlib.Core.Path.{◌≡◌, refl, sym, ◌∙◌, subst}
 use mathlib.Core.Bool.{true, false}
 use mathlib.Core.List.{List}
-use Prim.Native.Nat.{ℕ, zero, suc, ◌-◌, ◌≤◌}
+use Prim.Native.Nat.{ℕ, ◌-◌, ◌≤◌}
 use native.Mathlib.Omega.{arith}
-use lib.Dec.{eqb, ltb}
 use lib.IntN.{ℤ}
 use lib.ListN.{length, replicate, get_or-replicate}
-use borrow.Author.Tests.{ltb-true, ltb-false}
 use Rattle.std.specs.Prelude.{Result, Ok, Err}
 use Rattle.laws.specs.Lists.{at}
-use Rattle.laws.proofs.Booleans.{by_bool, clash}
 use Rattle.hall.specs.Hall.{Hall}
 use Rattle.hall.specs.File.{hall_in, hall_refusal, refusal}
 use Rattle.refusals.specs.declared.Kind.{Kind}
 use Rattle.refusals.specs.declared.Kind.TheVariants.{ListShort}
 use Rattle.refusals.specs.Kinds.{refusal_of, answered, figure}
-use Rattle.refusals.proofs.Numbers.{kind_number}
 use Rattle.opening.specs.Choice.{room_for}
-use Rattle.opening.proofs.Room.{room_short, room_enough}
+use Rattle.opening.proofs.Refused.{of_refused}
+use Rattle.opening.proofs.Room.{room_first, room_enough}
 use Rattle.dicuts.specs.Shores.{once}
 use Rattle.order.proofs.Promise.{plannable_first}
 use Rattle.certificates.specs.Cuts.{cuts}
@@ -91,27 +88,17 @@ module _ (bs a b : List ℕ) (d : List ℤ) where
   abbrev Room : Type 0
   Room = (125 ≤ length a) × (125 ≤ length b) × (64 ≤ length d)
 
-  refused_as : (n : ℕ) → eqb n 0 ≡ false → PairAs n (hall_in bs) 0 0 a a b b d d
-  unfolding PairAs
-  refused_as zero f = clash refl f
-  refused_as (suc n) f = (refl, refl, refl, refl, refl)
-
   says_err : (k : Kind) → refusal_of k ≡ room_for 125 (length a) (room_for 125 (length b) (room_for 64 (length d) (hall_refusal bs))) → Says (Err k) a b d
-  unfolding PairSays answered figure
-  says_err k e = (e, refused_as (refusal_of k).number (kind_number k).0)
+  unfolding PairSays PairAs answered figure
+  says_err k e = (e, of_refused (λ n. PairAs n (hall_in bs) 0 0 a a b b d d) (λ n. (refl, refl, refl, refl, refl)) k (refusal_of k) refl)
 
   pub says_short : (Room → ⊥) → Says (Err ListShort) a b d
   unfolding refusal_of
   says_short cramped =
       let levels = room_for 64 (length d) (hall_refusal bs) in
-      let weights = room_for 125 (length b) levels in
       says_err ListShort
-      (sym (by_bool (ltb (length a) 125) (λ r. room_short 125 (length a) weights (ltb-true (length a) 125 r))
-      (λ r. let fits_a = ltb-false (length a) 125 r in
-      room_enough 125 (length a) weights fits_a ∙ by_bool (ltb (length b) 125) (λ s. room_short 125 (length b) levels (ltb-true (length b) 125 s))
-      (λ s. let fits_b = ltb-false (length b) 125 s in
-      room_enough 125 (length b) levels fits_b ∙ by_bool (ltb (length d) 64) (λ t. room_short 64 (length d) (hall_refusal bs) (ltb-true (length d) 64 t))
-      (λ t. absurd (cramped (fits_a, fits_b, ltb-false (length d) 64 t)))))))
+      (sym (room_first 125 (length a) (room_for 125 (length b) levels)
+      (λ fits_a. room_first 125 (length b) levels (λ fits_b. room_first 64 (length d) (hall_refusal bs) (λ fits_d. absurd (cramped (fits_a, fits_b, fits_d)))))))
 
   module _ (room : Room) where
     past_room : room_for 125 (length a) (room_for 125 (length b) (room_for 64 (length d) (hall_refusal bs))) ≡ hall_refusal bs

@@ -2,21 +2,19 @@
 use mathlib.Core.Path.{◌≡◌, refl, sym, ◌∙◌}
 use mathlib.Core.Bool.{Bool, false, cond}
 use mathlib.Core.List.{List, ◌++◌}
-use Prim.Native.Nat.{ℕ, zero, suc, ◌<◌, ◌≤◌}
-use lib.Dec.{eqb}
+use Prim.Native.Nat.{ℕ, ◌<◌, ◌≤◌}
 use lib.ListN.{length, get_or, drop}
 use Rattle.std.specs.Prelude.{Result, Ok, Err}
 use Rattle.laws.specs.Lists.{in_front}
 use Rattle.laws.specs.Finite.{sum_below}
-use Rattle.laws.proofs.Booleans.{clash}
 use Rattle.hall.specs.Hall.{Hall}
 use Rattle.hall.specs.File.{hall_in, hall_refusal, refusal}
 use Rattle.hall.specs.Plan.{First}
 use Rattle.refusals.specs.declared.Kind.{Kind}
 use Rattle.refusals.specs.declared.Kind.TheVariants.{ListShort}
 use Rattle.refusals.specs.Kinds.{refusal_of, answered, figure}
-use Rattle.refusals.proofs.Numbers.{kind_number}
 use Rattle.opening.specs.Choice.{room_for}
+use Rattle.opening.proofs.Refused.{of_refused}
 use Rattle.opening.proofs.Room.{room_short, room_enough}
 use Rattle.dicuts.specs.Listed.{listed}
 use Rattle.columns.specs.Columns.{flagged}
@@ -39,14 +37,9 @@ module _ (bs a : List ℕ) where
   abbrev pub Says : Result PlannedRows Kind → (x : List ℕ) → Type 0
   Says r x = RowsSays bs (answered r) (figure (λ (p : PlannedRows). p.chosen) r) (figure (λ (p : PlannedRows). p.total) r) a x
 
-  refused_as : (n : ℕ) → eqb n 0 ≡ false → RowsAs n (hall_in bs) 0 0 a a
-  unfolding RowsAs
-  refused_as zero f = clash refl f
-  refused_as (suc n) f = (refl, refl, refl)
-
   says_err : (k : Kind) → refusal_of k ≡ room_for 256 (length a) (hall_refusal bs) → Says (Err k) a
-  unfolding RowsSays answered figure
-  says_err k e = (e, refused_as (refusal_of k).number (kind_number k).0)
+  unfolding RowsSays RowsAs answered figure
+  says_err k e = (e, of_refused (λ n. RowsAs n (hall_in bs) 0 0 a a) (λ n. (refl, refl, refl)) k (refusal_of k) refl)
 
   pub says_short : length a < 256 → Says (Err ListShort) a
   unfolding refusal_of

@@ -1,14 +1,11 @@
 -- What the two calls leave in lists of full length is what the report prints. Assumes nothing.
-use mathlib.Core.Path.{◌≡◌, refl, sym, ap, ◌∙◌}
-use mathlib.Core.Bool.{false}
+use mathlib.Core.Path.{◌≡◌, sym, ap, ◌∙◌}
 use mathlib.Core.List.{List}
-use Prim.Native.Nat.{ℕ, zero, suc, ◌≤◌}
+use Prim.Native.Nat.{ℕ, ◌≤◌}
 use native.Mathlib.Omega.{arith}
-use lib.Dec.{eqb}
 use lib.IntN.{ℤ}
 use lib.ListN.{length, take, length-map}
 use Rattle.std.specs.Prelude.{Result, Ok, Err}
-use Rattle.laws.proofs.Booleans.{clash}
 use Rattle.laws.proofs.Lists.{front_fits, front_are}
 use Rattle.hall.specs.Hall.{Hall}
 use Rattle.hall.specs.File.{Refusal, refusal, hall_in, hall_refusal}
@@ -17,12 +14,13 @@ use Rattle.hallfile.specs.declared.record.HallRecord.{HallRecord}
 use Rattle.hallfile.specs.Record.{RecordOf}
 use Rattle.refusals.specs.declared.Kind.{Kind}
 use Rattle.refusals.specs.Kinds.{answered, figure, refusal_of}
-use Rattle.refusals.proofs.Numbers.{answer_none, kind_refused}
+use Rattle.refusals.proofs.Numbers.{answer_none}
 use Rattle.cutlist.specs.declared.Cut.{Cut}
 use Rattle.cutlist.specs.Cuts.{lent, cuts_of}
 use Rattle.cutlist.proofs.Lent.{cuts-lent}
 use Rattle.levels.proofs.Levelling.{levels_size}
 use Rattle.opening.specs.Choice.{room_for}
+use Rattle.opening.proofs.Refused.{of_refused}
 use Rattle.opening.proofs.Room.{room_enough}
 use Rattle.oneplan.specs.Plan.{RowsSays, CutsSays}
 use Rattle.oneplan.proofs.Promise.{ChoiceListed, choice_listed, CutsListed, cuts_listed}
@@ -100,11 +98,6 @@ module _ (bs : List ℕ) where
   unfolding ReportAs
   report_list f h text none printed = rw none printed
 
-  refused_as : (k : ℕ) (f : Refusal) (h : Hall) (text : List ℕ) → eqb k 0 ≡ false → text ≡ printed_refusal f → ReportAs k f h text
-  unfolding ReportAs
-  refused_as zero f h text over is = clash refl over
-  refused_as (suc k) f h text over is = is
-
   -- the list is refused, or printed
   pub list_refused : {r : Result (List ℕ) Kind} {k : Kind} → r ≡ Err k → refusal_of k ≡ hall_refusal bs → ListSays bs r
   unfolding answered
@@ -117,7 +110,7 @@ module _ (bs : List ℕ) where
       report_list (hall_refusal bs) (hall_in bs) text (ap (λ (f : Refusal). f.number) (answer_none text (hall_refusal bs) s.refusal)) s.list
 
   pub report_refused : {r : Result (List ℕ) Kind} {k : Kind} {text : List ℕ} → r ≡ Err k → ListSays bs r → text ≡ printed_refusal (refusal_of k) → ReportSays bs text
-  unfolding ReportSays answered
+  unfolding ReportSays ReportAs answered
   report_refused {r} {k} {text} e says is =
       let s : ListSays bs (Err k) = rw e at says in
-      refused_as (hall_refusal bs).number (hall_refusal bs) (hall_in bs) text (kind_refused k (hall_refusal bs) s.refusal) (is ∙ ap printed_refusal s.refusal)
+      of_refused (λ n. ReportAs n (hall_refusal bs) (hall_in bs) text) (λ n. is ∙ ap printed_refusal s.refusal) k (hall_refusal bs) s.refusal
