@@ -1,0 +1,1 @@
+-- Over every history the kits left are the starting stock less the opened rows; the plan of a file is its own; and sites are read back from their places. Assumes nothing.

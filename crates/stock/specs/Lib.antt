@@ -1,0 +1,3 @@
+pub mod Site
+pub mod Places
+pub mod Promise
