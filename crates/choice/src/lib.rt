@@ -16,7 +16,7 @@ use columns::Lanes;
 use junctions::Junctions;
 
 // The numbers ascend strictly from 1 up to the limit.
-fn ascends(numbers: &[u32], limit: u32) -> bool
+pub fn ascends(numbers: &[u32], limit: u32) -> bool
     requires { limit ≤ 256 }
     ensures { result ≡ ascends_from 1 limit numbers.now }
 {

@@ -73,7 +73,7 @@ ascends_members l a (i ∷ is) v e t =
     (λ (q : member v is ≡ true). let r = ascends_members l (suc i) is v (ascends_rest a l i is e) q in (omega arith, r.1))
     (or_cases (eqb i v) (member v is) t)
 
-ascends_length : (a l : ℕ) (c : List ℕ) → a ≤ suc l → ascends_from a l c ≡ true → length c + a ≤ suc l
+pub ascends_length : (a l : ℕ) (c : List ℕ) → a ≤ suc l → ascends_from a l c ≡ true → length c + a ≤ suc l
 ascends_length a l [] low e = omega arith
 ascends_length a l (i ∷ is) low e =
     omega (arith, ascends_low a l i is e, ascends_length (suc i) l is (omega (arith, ascends_high a l i is e)) (ascends_rest a l i is e))
