@@ -1,1 +1,3 @@
+pub mod Admission
+pub mod ReadBack
 pub mod Promise
