@@ -62,10 +62,3 @@ flagged_more ns k i f h l e g = record { len = length-set f i true ∙ g.len; at
         rw (add-one, take-suc ns k 0 h, member_snoc) (rw (q, get_or-set_same f i true false (omega (arith, g.len)), sym e, eq-eqb (suc i) (suc i) refl) (sym (or-true (member (suc i) (take k ns))))))
         (λ t. let q = eqb-false j i t in
         rw (add-one, take-suc ns k 0 h, member_snoc) (rw (get_or-set_other f i j true false q, sym e, ne_eqb (suc i) (suc j) (λ z. q (omega arith)), g.at j m) (sym (or-false (member (suc j) (take k ns))))))
-
--- a wider limit
-pub ascends_wider : (a l m : ℕ) (ns : List ℕ) → l ≤ m → ascends_from a l ns ≡ true → ascends_from a m ns ≡ true
-unfolding ascends_from
-ascends_wider a l m [] h e = refl
-ascends_wider a l m (i ∷ is) h e =
-    rw (le-leb a i (ascends_low a l i is e), le-leb i m (omega (arith, ascends_high a l i is e))) (ascends_wider (suc i) l m is h (ascends_rest a l i is e))

@@ -45,6 +45,13 @@ ascends_earlier a b l [] h e = refl
 ascends_earlier a b l (x ∷ xs) h e =
     ascends_cons a l x xs (omega (arith, ascends_low b l x xs e)) (ascends_high b l x xs e) (ascends_rest b l x xs e)
 
+-- and to any higher limit
+pub ascends_wider : (a l m : ℕ) (d : List ℕ) → l ≤ m → ascends_from a l d ≡ true → ascends_from a m d ≡ true
+unfolding ascends_from
+ascends_wider a l m [] h e = refl
+ascends_wider a l m (x ∷ xs) h e =
+    ascends_cons a m x xs (ascends_low a l x xs e) (omega (arith, ascends_high a l x xs e)) (ascends_wider (suc x) l m xs h (ascends_rest a l x xs e))
+
 -- the first number is a member, and so are those of the rest
 pub member_head : (x : ℕ) (xs : List ℕ) → member x (x ∷ xs) ≡ true
 unfolding member

@@ -1,2 +1,5 @@
+pub mod Plans
+pub mod Admission
 pub mod Places
+pub mod ReadBack
 pub mod Promise

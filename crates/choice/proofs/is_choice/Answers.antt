@@ -1,6 +1,6 @@
 -- `choice::is_choice` tells whether the list is a choice: it ascends, and then none of its rows is fixed. Assumes nothing.
 use mathlib.Core.Path.{sym, ◌∙◌}
-use Rattle.choice.proofs.Ascent.{ascends_wider}
+use Rattle.dicuts.proofs.Choices.{ascends_wider}
 use Rattle.choice.proofs.Marked.{ascending_choice, unascending_choice}
 use Rattle.choice.proofs.is_choice.Goals as goal
 

@@ -6,9 +6,8 @@ use lib.Dec.{eqb}
 use Rattle.std.proofs.Common.{rules, Err}
 use Rattle.hall.specs.Hall.{count, is_choice}
 use Rattle.hall.specs.File.{hall_in, hall_refusal}
-use Rattle.dicuts.proofs.Choices.{choice_ascends}
+use Rattle.dicuts.proofs.Choices.{choice_ascends, ascends_wider}
 use Rattle.columns.specs.Lanes.{LanesOf}
-use Rattle.choice.proofs.Ascent.{ascends_wider}
 use Rattle.refusals.specs.Kinds.{refusal_of, answered}
 use Rattle.refusals.proofs.Numbers.{kind_refused, answer_fine}
 use Rattle.hallfile.proofs.Records.{record_lanes, record_marks}

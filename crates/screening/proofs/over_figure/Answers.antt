@@ -4,8 +4,7 @@ use native.Mathlib.Omega.{arith}
 use Rattle.std.proofs.Common.{rules, Err}
 use Rattle.hall.specs.Hall.{count}
 use Rattle.hall.specs.File.{hall_in}
-use Rattle.dicuts.proofs.Choices.{choice_ascends}
-use Rattle.choice.proofs.Ascent.{ascends_wider}
+use Rattle.dicuts.proofs.Choices.{choice_ascends, ascends_wider}
 use Rattle.refusals.specs.Kinds.{answered}
 use Rattle.opening.proofs.Opening as opening
 use Rattle.screening.specs.Figure.{FigureSays}
