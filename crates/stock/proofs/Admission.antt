@@ -1,13 +1,13 @@
--- The parts of a sound site; what an unrefused admission says of site, file and plan; and a sound site stays sound. Assumes nothing.
+-- What an admission that is not refused says of site, file and plan; a sound site stays sound; and site and file fix the answer. Assumes nothing.
 use mathlib.Core.Path.{◌≡◌, refl, sym, ap, ◌∙◌}
-use mathlib.Core.Bool.{Bool, true, false, ◌&&◌, cond}
-use mathlib.Core.List.{List, [], ◌∷◌, ◌++◌}
-use Prim.Native.Nat.{ℕ, ◌+◌, ◌≤◌, ◌<◌}
+use mathlib.Core.Bool.{Bool, true, false, cond}
+use mathlib.Core.List.{List, [], ◌∷◌}
+use Prim.Native.Nat.{ℕ, ◌≤◌, ◌<◌}
 use native.Mathlib.Omega.{arith}
 use lib.Dec.{eqb, leb, ltb}
 use lib.ListN.{length, length-append}
-use borrow.Author.Tests.{eqb-true, eq-eqb, leb-true, leb-false, le-leb, ltb-false}
-use Rattle.laws.proofs.Booleans.{by_bool, clash, and_l, and_r, and_i, cond_true, cond_false}
+use borrow.Author.Tests.{eqb-true, eq-eqb, leb-true, leb-false, ltb-false}
+use Rattle.laws.proofs.Booleans.{by_bool, clash, cond_true, cond_false}
 use Rattle.hall.specs.Hall.{count, ascends_from}
 use Rattle.hall.specs.File.{Refusal, refusal, or_else, hall_in, hall_refusal}
 use Rattle.hall.specs.Plan.{First}
@@ -15,51 +15,7 @@ use Rattle.dicuts.proofs.Choices.{choice_ascends, ascends_wider}
 use Rattle.joining.proofs.Sound.{other_sound}
 use Rattle.order.proofs.First.{first_alone}
 use Rattle.stock.specs.Site.{Site, site, opened_rows, all_plans, sound, site_refusal, started, admit_refusal, admitted, AdmitSays}
-
--- the parts of the test
-pub record SoundSite (s : Site) : Type 0 where
-  pub stock_few : s.stock ≤ 2048
-  pub plans_few : length s.plans ≤ 8
-  pub plans_good : all_plans s.plans ≡ true
-  pub kept : s.left + opened_rows s.plans ≡ s.stock
-
-module _ (s : Site) where
-  abbrev few : Bool
-  few = leb s.stock 2048 && leb (length s.plans) 8
-
-  abbrev good : Bool
-  good = all_plans s.plans && eqb (s.left + opened_rows s.plans) s.stock
-
-  pub sound_parts : sound s ≡ true → SoundSite s
-  unfolding sound
-  sound_parts e =
-      let f = and_l few good e in
-      let g = and_r few good e in
-      record {
-        stock_few = leb-true s.stock 2048 (and_l (leb s.stock 2048) (leb (length s.plans) 8) f);
-        plans_few = leb-true (length s.plans) 8 (and_r (leb s.stock 2048) (leb (length s.plans) 8) f);
-        plans_good = and_l (all_plans s.plans) (eqb (s.left + opened_rows s.plans) s.stock) g;
-        kept = eqb-true (s.left + opened_rows s.plans) s.stock (and_r (all_plans s.plans) (eqb (s.left + opened_rows s.plans) s.stock) g);
-      }
-
-  pub parts_sound : SoundSite s → sound s ≡ true
-  unfolding sound
-  parts_sound p =
-      and_i few good (and_i (leb s.stock 2048) (leb (length s.plans) 8) (le-leb s.stock 2048 p.stock_few) (le-leb (length s.plans) 8 p.plans_few))
-      (and_i (all_plans s.plans) (eqb (s.left + opened_rows s.plans) s.stock) p.plans_good (eq-eqb (s.left + opened_rows s.plans) s.stock p.kept))
-
--- one plan more at the end
-all_plans_more : (ps : List (List ℕ)) (c : List ℕ) → all_plans ps ≡ true → ascends_from 1 256 c ≡ true → all_plans (ps ++ c ∷ []) ≡ true
-unfolding all_plans
-all_plans_more [] c t e = and_i (ascends_from 1 256 c) true e refl
-all_plans_more (p ∷ ps) c t e =
-    and_i (ascends_from 1 256 p) (all_plans (ps ++ c ∷ [])) (and_l (ascends_from 1 256 p) (all_plans ps) t)
-    (all_plans_more ps c (and_r (ascends_from 1 256 p) (all_plans ps) t) e)
-
-opened_more : (ps : List (List ℕ)) (c : List ℕ) → opened_rows (ps ++ c ∷ []) ≡ opened_rows ps + length c
-unfolding opened_rows
-opened_more [] c = omega arith
-opened_more (p ∷ ps) c = omega (arith, opened_more ps c)
+use Rattle.stock.proofs.Plans.{sound_parts, parts_sound, all_plans_more, opened_append}
 
 -- a site that starts is sound
 pub started_sound : (k : ℕ) → sound (started k) ≡ true
@@ -126,14 +82,14 @@ plan_ascends bs c z first =
 
 -- an admitted plan leaves a sound site sound
 pub admitted_sound : (s : Site) (bs c : List ℕ) → Unrefused s bs c → First (hall_in bs) c → sound (admitted s c) ≡ true
-unfolding admitted site
+unfolding admitted site opened_rows
 admitted_sound s bs c u first =
     let p = sound_parts s u.site_sound in
     parts_sound (admitted s c) record {
       stock_few = p.stock_few;
       plans_few = omega (arith, u.room, length-append s.plans (c ∷ []));
       plans_good = all_plans_more s.plans c p.plans_good (plan_ascends bs c u.file_fine first);
-      kept = omega (arith, p.kept, u.kits, opened_more s.plans c);
+      kept = omega (arith, p.kept, u.kits, opened_append s.plans (c ∷ []));
     }
 
 module _ (s t : Site) (bs : List ℕ) (f : Refusal) (says : AdmitSays s bs f t) where

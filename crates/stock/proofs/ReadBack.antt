@@ -1,40 +1,18 @@
--- Parts of a list place by place, the lengths and rows of plans as parts of the places, and a sound site is read back from them. Assumes nothing.
+-- A sound site is read back from its places, plan by plan. Assumes nothing.
 use mathlib.Core.Path.{◌≡◌, refl, sym, ap, ◌∙◌}
 use mathlib.Core.Bool.{true}
 use mathlib.Core.List.{List, [], ◌∷◌, ◌++◌, append_assoc}
-use Prim.Native.Nat.{ℕ, zero, suc, ◌+◌, ◌*◌, ◌≤◌, ◌<◌}
+use Prim.Native.Nat.{ℕ, zero, suc, ◌+◌, ◌*◌, ◌-◌, ◌≤◌}
 use native.Mathlib.Omega.{arith}
-use lib.ListN.{length, get_or, length-append, get_or-append}
-use lib.Seq.{ext_get_or, get_or-append-add}
+use lib.ListN.{length, get_or, length-append}
 use Rattle.laws.proofs.Booleans.{and_l, and_r}
 use Rattle.hall.specs.Hall.{ascends_from}
-use Rattle.dicuts.proofs.Choices.{ascends_length}
 use Rattle.stock.specs.Site.{Site, site, all_plans, sound}
 use Rattle.stock.specs.Places.{part, plans_in, site_in, lengths, rows_of, places}
-use Rattle.stock.proofs.Admission.{sound_parts}
-
-pub part_length : (xs : List ℕ) (a n : ℕ) → length (part xs a n) ≡ n
-unfolding part
-part_length xs a zero = refl
-part_length xs a (suc n) = omega (arith, part_length xs (suc a) n)
-
-pub part_at : (xs : List ℕ) (a n k : ℕ) → k < n → get_or (part xs a n) k 0 ≡ get_or xs (a + k) 0
-unfolding part
-part_at xs a zero k l = absurd (omega arith)
-part_at xs a (suc n) zero l = let e : a ≡ a + 0 = omega arith in ap (λ (i : ℕ). get_or xs i 0) e
-part_at xs a (suc n) (suc k) l = let e : suc a + k ≡ a + suc k = omega arith in part_at xs (suc a) n k (omega arith) ∙ ap (λ (i : ℕ). get_or xs i 0) e
-
--- what a list has from a place on is a part of it
-pub part_is : (xs ys : List ℕ) (a : ℕ) → ((k : ℕ) → k < length ys → get_or xs (a + k) 0 ≡ get_or ys k 0) → part xs a (length ys) ≡ ys
-part_is xs ys a same =
-    let size = part_length xs a (length ys) in
-    ext_get_or 0 (part xs a (length ys)) ys size
-    (λ k l. let less : k < length ys = omega arith in part_at xs a (length ys) k less ∙ same k less)
-
-lengths_length : (ps : List (List ℕ)) → length (lengths ps) ≡ length ps
-unfolding lengths
-lengths_length [] = refl
-lengths_length (p ∷ ps) = omega (arith, lengths_length ps)
+use Rattle.stock.proofs.Plans.{plan_short, sound_parts}
+use Rattle.stock.proofs.Places.{part_length, part_slice, part_behind, part_front, lengths_length}
+use Rattle.std.proofs.Math.Seq.{take-append_seam}
+use lib.ListN.{replicate}
 
 pub rows_length : (l : ℕ) (ps : List (List ℕ)) → length (rows_of l ps) ≡ 256 * l
 unfolding rows_of
@@ -45,11 +23,14 @@ rows_length (suc l) (p ∷ ps) = omega (arith, length-append (part p 0 256) (row
 -- a list of at most n numbers is read back from its n places, whatever stands before and behind them
 part_stands : (front p rest : List ℕ) (n : ℕ) → length p ≤ n → part (front ++ (part p 0 n ++ rest)) (length front) (length p) ≡ p
 part_stands front p rest n fits =
-    part_is (front ++ (part p 0 n ++ rest)) p (length front)
-    (λ k l.
-    let e : 0 + k ≡ k = omega arith in
-    get_or-append-add front (part p 0 n ++ rest) k 0 ∙ get_or-append (part p 0 n) rest 0 k (omega (arith, part_length p 0 n))
-    ∙ part_at p 0 n k (omega arith) ∙ ap (λ (i : ℕ). get_or p i 0) e)
+    let here : length front ≡ length front + 0 = omega arith in
+    let zeros = replicate (n - length p) 0 in
+    let first : part p 0 n ++ rest ≡ p ++ (zeros ++ rest) = ap (λ (t : List ℕ). t ++ rest) (part_front p n fits) ∙ append_assoc p zeros rest in
+    ap (λ (a : ℕ). part (front ++ (part p 0 n ++ rest)) a (length p)) here
+    ∙ part_behind front (part p 0 n ++ rest) 0 (length p)
+    ∙ ap (λ (t : List ℕ). part t 0 (length p)) first
+    ∙ part_slice (p ++ (zeros ++ rest)) 0 (length p) (omega (arith, length-append p (zeros ++ rest)))
+    ∙ take-append_seam p (zeros ++ rest)
 
 part_next : (xs : List ℕ) (a n : ℕ) → part xs a (suc n) ≡ get_or xs a 0 ∷ part xs (suc a) n
 unfolding part
@@ -63,7 +44,7 @@ unfolding plans_in rows_of lengths all_plans
 plans_back xs l k front [] is size fits good counts = refl
 plans_back xs zero k front (p ∷ ps) is size fits good counts = absurd (omega arith)
 plans_back xs (suc l) k front (p ∷ ps) is size fits good counts =
-    let short : length p ≤ 256 = omega (arith, ascends_length 1 256 p (omega arith) (and_l (ascends_from 1 256 p) (all_plans ps) good)) in
+    let short : length p ≤ 256 = plan_short p (and_l (ascends_from 1 256 p) (all_plans ps) good) in
     let both = sym (part_next xs (3 + k) (length ps)) ∙ counts in
     let stands = part_stands front p (rows_of l ps) 256 short in
     let first : part xs (11 + 256 * k) (get_or xs (3 + k) 0) ≡ p = cc in
