@@ -1,4 +1,5 @@
 pub mod Plans
+pub mod FirstPlans
 pub mod Admission
 pub mod Places
 pub mod ReadBack

@@ -29,7 +29,7 @@ part_behind xs ys a (suc n) =
     let next : suc (length xs + a) ≡ length xs + suc a = omega arith in
     ap₂ (λ (x : ℕ) (t : List ℕ). x ∷ t) (get_or-append-add xs ys a 0) (ap (λ (i : ℕ). part (xs ++ ys) i n) next ∙ part_behind xs ys (suc a) n)
 
-part_none : (a n : ℕ) → part [] a n ≡ replicate n 0
+pub part_none : (a n : ℕ) → part [] a n ≡ replicate n 0
 unfolding part
 part_none a zero = refl
 part_none a (suc n) = ap (λ (t : List ℕ). 0 ∷ t) (part_none (suc a) n)
@@ -107,6 +107,14 @@ put_first w p rest h =
     ∙ ap (λ (n : ℕ). p ++ drop n (replicate m 0 ++ (zeros ++ rest))) (sym (length-replicate m 0))
     ∙ ap (λ (t : List ℕ). p ++ t) (drop-append_seam (replicate m 0) (zeros ++ rest))
     ∙ sym (ap (λ (t : List ℕ). t ++ rest) (part_front p w h) ∙ append_assoc p zeros rest)
+
+-- where there are no plans
+pub rows_none : (l : ℕ) → rows_of l [] ≡ replicate (256 * l) 0
+unfolding rows_of
+rows_none zero = refl
+rows_none (suc l) =
+    let one : 256 + 256 * l ≡ 256 * suc l = omega arith in
+    ap₂ (λ (xs ys : List ℕ). xs ++ ys) (part_none 0 256) (rows_none l) ∙ replicate-append-replicate 256 (256 * l) 0 ∙ ap (λ (n : ℕ). replicate n 0) one
 
 -- the rows of one plan more
 pub rows_put : (l : ℕ) (ps : List (List ℕ)) (p : List ℕ) → length ps < l → length p ≤ 256

@@ -1,19 +1,24 @@
 -- The plans of a site one by one: how long each is, how many rows the first of them open, and what a sound site keeps. Assumes nothing.
-use mathlib.Core.Path.{◌≡◌, refl}
-use mathlib.Core.Bool.{Bool, true, ◌&&◌}
+use mathlib.Core.Path.{◌≡◌, refl, ◌∙◌}
+use mathlib.Core.Bool.{Bool, true, false, ◌&&◌}
 use mathlib.Core.List.{List, [], ◌∷◌, ◌++◌}
 use Prim.Native.Nat.{ℕ, zero, suc, ◌+◌, ◌≤◌, ◌<◌}
+use native.Mathlib.Numerals.{add-one}
 use native.Mathlib.Omega.{arith}
 use lib.Dec.{leb, eqb}
 use lib.ListN.{length, get_or, take}
 use borrow.Author.Tests.{eqb-true, eq-eqb, leb-true, le-leb}
-use Rattle.laws.proofs.Booleans.{and_l, and_r, and_i}
+use Rattle.std.proofs.Math.Seq.{take-suc}
+use Rattle.laws.proofs.Booleans.{clash, not_true_false, and_l, and_r, and_i}
 use Rattle.hall.specs.Hall.{ascends_from}
 use Rattle.dicuts.proofs.Choices.{ascends_length}
 use Rattle.stock.specs.Site.{Site, opened_rows, all_plans, sound}
 
 pub plan_short : (p : List ℕ) → ascends_from 1 256 p ≡ true → length p ≤ 256
 plan_short p e = omega (arith, ascends_length 1 256 p (omega arith) e)
+
+pub long_no_plan : (p : List ℕ) → 256 < length p → ascends_from 1 256 p ≡ false
+long_no_plan p long = not_true_false (ascends_from 1 256 p) (λ e. omega (arith, plan_short p e))
 
 pub plans_each : (ps : List (List ℕ)) (k : ℕ) → all_plans ps ≡ true → k < length ps → ascends_from 1 256 (get_or ps k []) ≡ true
 unfolding all_plans
@@ -33,6 +38,14 @@ pub opened_append : (ps qs : List (List ℕ)) → opened_rows (ps ++ qs) ≡ ope
 unfolding opened_rows
 opened_append [] qs = omega arith
 opened_append (p ∷ ps) qs = omega (arith, opened_append ps qs)
+
+-- plan after plan: all of the first are plans, and so is the next one
+pub all_next : (ps : List (List ℕ)) (k : ℕ) → k < length ps → all_plans (take k ps) ≡ true → ascends_from 1 256 (get_or ps k []) ≡ true → all_plans (take (k + 1) ps) ≡ true
+all_next ps k h t e = rw (add-one, take-suc ps k [] h) (all_plans_more (take k ps) (get_or ps k []) t e)
+
+pub opened_more : (ps : List (List ℕ)) (k : ℕ) → k < length ps → opened_rows (take (k + 1) ps) ≡ opened_rows (take k ps) + length (get_or ps k [])
+unfolding opened_rows
+opened_more ps k h = rw (add-one, take-suc ps k [] h) (opened_append (take k ps) (get_or ps k [] ∷ []) ∙ omega arith)
 
 -- the first plans and the next one open no more rows than all of them
 pub opened_next : (ps : List (List ℕ)) (k : ℕ) → k < length ps → opened_rows (take k ps) + length (get_or ps k []) ≤ opened_rows ps
@@ -72,3 +85,8 @@ module _ (s : Site) where
   parts_sound p =
       and_i few good (and_i (leb s.stock 2048) (leb (length s.plans) 8) (le-leb s.stock 2048 p.stock_few) (le-leb (length s.plans) 8 p.plans_few))
       (and_i (all_plans s.plans) (eqb (s.left + opened_rows s.plans) s.stock) p.plans_good (eq-eqb (s.left + opened_rows s.plans) s.stock p.kept))
+
+  -- where the limits are kept, the rest decides
+  pub sound_within : s.stock ≤ 2048 → length s.plans ≤ 8 → sound s ≡ good
+  unfolding sound
+  sound_within low short = rw (le-leb s.stock 2048 low, le-leb (length s.plans) 8 short) refl
