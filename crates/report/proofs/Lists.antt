@@ -22,9 +22,8 @@ use Rattle.levels.proofs.Levelling.{levels_size}
 use Rattle.opening.specs.Choice.{room_for}
 use Rattle.opening.proofs.Refused.{of_refused}
 use Rattle.opening.proofs.Room.{room_enough}
-use Rattle.oneplan.specs.Plan.{RowsSays, CutsSays}
-use Rattle.oneplan.proofs.Promise.{ChoiceListed, choice_listed, CutsListed, cuts_listed}
-use Rattle.planrows.specs.declared.PlannedRows.{PlannedRows}
+use Rattle.oneplan.specs.Plan.{CutsSays}
+use Rattle.oneplan.proofs.Promise.{ChoiceListed, CutsListed, cuts_listed}
 use Rattle.planpairs.specs.declared.PlannedCuts.{PlannedCuts}
 use Rattle.printing.specs.Printed.{printed_plan, printed_refusal}
 use Rattle.printing.specs.Recorded.{hall_of, Printable}
@@ -32,19 +31,6 @@ use Rattle.printing.proofs.Recorded.{hall_of_record}
 use Rattle.report.specs.Report.{PlanPrinted, ReportAs, ReportSays, ListSays}
 
 module _ (bs : List ℕ) where
-  -- what the rows' call says: with a list of full length it refuses what the hall's file does, or lists the first choice
-  module _ (a x : List ℕ) where
-    abbrev RowsReply : Result PlannedRows Kind → Type 0
-    RowsReply r = RowsSays bs (answered r) (figure (λ (p : PlannedRows). p.chosen) r) (figure (λ (p : PlannedRows). p.total) r) a x
-
-    pub rows_refused : (k : Kind) → length a ≡ 256 → RowsReply (Err k) → refusal_of k ≡ hall_refusal bs
-    unfolding RowsSays answered
-    rows_refused k size says = says.0 ∙ room_enough 256 (length a) (hall_refusal bs) (omega (arith, size))
-
-    pub rows_fine : {p : PlannedRows} → RowsReply (Ok p) → ChoiceListed (hall_in bs) p.chosen p.total x
-    unfolding RowsSays answered figure refusal
-    rows_fine {p} says = choice_listed (hall_in bs) p.chosen p.total a x says.1
-
   -- what the cuts' call says, beside the first choice
   module _ (b y : List Cut) (d w : List ℤ) where
     abbrev CutsReply : Result PlannedCuts Kind → Type 0

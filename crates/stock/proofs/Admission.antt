@@ -71,10 +71,6 @@ module _ (s : Site) (bs : List ℕ) where
   unfolding admit_refusal or_else
   refused_alike c d e = rw e refl
 
-  pub damaged_answer : (c : List ℕ) → sound s ≡ false → admit_refusal s bs c ≡ refusal 12 0
-  unfolding admit_refusal site_refusal or_else refusal
-  damaged_answer c e = rw e refl
-
 -- the plan of a file that is fine ascends from 1 to at most 256, whatever the number of its rows
 pub plan_ascends : (bs c : List ℕ) → (hall_refusal bs).number ≡ 0 → First (hall_in bs) c → ascends_from 1 256 c ≡ true
 plan_ascends bs c z first =

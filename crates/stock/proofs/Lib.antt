@@ -1,5 +1,6 @@
 pub mod Plans
 pub mod FirstPlans
+pub mod Answered
 pub mod Admission
 pub mod Places
 pub mod ReadBack

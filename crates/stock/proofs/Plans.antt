@@ -9,7 +9,7 @@ use lib.Dec.{leb, eqb}
 use lib.ListN.{length, get_or, take}
 use borrow.Author.Tests.{eqb-true, eq-eqb, leb-true, le-leb}
 use Rattle.std.proofs.Math.Seq.{take-suc}
-use Rattle.laws.proofs.Booleans.{clash, not_true_false, and_l, and_r, and_i}
+use Rattle.laws.proofs.Booleans.{not_true_false, and_l, and_r, and_i}
 use Rattle.hall.specs.Hall.{ascends_from}
 use Rattle.dicuts.proofs.Choices.{ascends_length}
 use Rattle.stock.specs.Site.{Site, opened_rows, all_plans, sound}

@@ -9,7 +9,8 @@ use Rattle.order.proofs.First.{first_alone}
 use Rattle.stock.specs.Site.{Site, site, sound, started, admitted, AdmitSays, History, begun, let_in}
 use Rattle.stock.specs.Places.{site_in, places, AdmitLeaves}
 use Rattle.stock.specs.Promise.{StockKept, PlanAlone, PlacesStand, DamagedRefused, AdmitAlone}
-use Rattle.stock.proofs.Admission.{started_sound, damaged_answer, admitted_plan, admission_sound, admission_alone}
+use Rattle.stock.proofs.Answered.{damaged_answer}
+use Rattle.stock.proofs.Admission.{started_sound, admitted_plan, admission_sound, admission_alone}
 use Rattle.stock.proofs.Plans.{sound_parts}
 use Rattle.stock.proofs.ReadBack.{places_length, read_back}
 

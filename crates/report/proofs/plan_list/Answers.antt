@@ -9,7 +9,8 @@ use Rattle.hall.specs.File.{hall_in}
 use Rattle.refusals.specs.Kinds.{answered}
 use Rattle.cutlist.specs.Cuts.{lent}
 use Rattle.oneplan.proofs.Promise.{ChoiceListed, CutsListed}
-use Rattle.report.proofs.Lists.{rows_refused, rows_fine, cuts_refused, cuts_fine, levels_fit, printable, printed, list_refused}
+use Rattle.planrows.proofs.Reply.{rows_refused, rows_fine}
+use Rattle.report.proofs.Lists.{cuts_refused, cuts_fine, levels_fit, printable, printed, list_refused}
 use Rattle.report.proofs.plan_list.Goals as goal
 use Rattle.report.proofs.plan_list.Goals.{In_ok-chosen, In_ok-planned}
 

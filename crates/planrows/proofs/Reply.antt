@@ -1,0 +1,33 @@
+-- With a list of full length the rows' call refuses what the hall's file does, or lists the first choice. Assumes nothing.
+use mathlib.Core.Path.{◌≡◌, ◌∙◌}
+use mathlib.Core.Bool.{true}
+use mathlib.Core.List.{List}
+use Prim.Native.Nat.{ℕ}
+use native.Mathlib.Omega.{arith}
+use lib.Dec.{eqb}
+use lib.ListN.{length}
+use Rattle.std.specs.Prelude.{Result, Ok, Err}
+use Rattle.hall.specs.File.{hall_in, hall_refusal, refusal}
+use Rattle.refusals.specs.declared.Kind.{Kind}
+use Rattle.refusals.specs.Kinds.{refusal_of, answered, figure}
+use Rattle.refusals.proofs.Numbers.{answer_fine}
+use Rattle.opening.proofs.Room.{room_enough}
+use Rattle.oneplan.specs.Plan.{RowsSays}
+use Rattle.oneplan.proofs.Promise.{ChoiceListed, choice_listed}
+use Rattle.planrows.specs.declared.PlannedRows.{PlannedRows}
+
+module _ (bs a x : List ℕ) where
+  abbrev RowsReply : Result PlannedRows Kind → Type 0
+  RowsReply r = RowsSays bs (answered r) (figure (λ (p : PlannedRows). p.chosen) r) (figure (λ (p : PlannedRows). p.total) r) a x
+
+  pub rows_refused : (k : Kind) → length a ≡ 256 → RowsReply (Err k) → refusal_of k ≡ hall_refusal bs
+  unfolding RowsSays answered
+  rows_refused k size says = says.0 ∙ room_enough 256 (length a) (hall_refusal bs) (omega (arith, size))
+
+  pub rows_unrefused : (p : PlannedRows) → length a ≡ 256 → RowsReply (Ok p) → eqb (hall_refusal bs).number 0 ≡ true
+  unfolding RowsSays
+  rows_unrefused p size says = answer_fine p (hall_refusal bs) (says.0 ∙ room_enough 256 (length a) (hall_refusal bs) (omega (arith, size)))
+
+  pub rows_fine : {p : PlannedRows} → RowsReply (Ok p) → ChoiceListed (hall_in bs) p.chosen p.total x
+  unfolding RowsSays answered figure refusal
+  rows_fine {p} says = choice_listed (hall_in bs) p.chosen p.total a x says.1
