@@ -2,8 +2,8 @@
 //! `compare [TIMES]` tries so many times as many random halls.
 
 use compare::{
-    calls_with_a_choice, every_route, first_plan, plan, planners, quotes, short_columns, short_lists, small_plan,
-    with_without, Planner,
+    calls_with_a_choice, every_route, first_plan, plan, planners, quotes, short_columns, short_lists, sites,
+    small_plan, with_without, Planner,
 };
 use halls::{
     all_halls, damaged, fixed_hall, fixed_halls, full_hall, large_fixed_halls, looped_hall, random_files, random_hall,
@@ -102,6 +102,12 @@ fn suites(times: u64) -> Vec<Suite> {
         let files = (0..count * times).map(move |seed| random_hall(n, rows, seed));
         suites.push(suite(format!("one quote: up to {n} junctions and {rows} rows"), files, quotes));
     }
+    let drawn = starred().into_iter().chain(fixed_halls()).chain(large_fixed_halls()).chain(sized_files());
+    suites.push(suite("sites: halls drawn by hand, halls at the limits", drawn, sites));
+    for (n, rows, count) in [(6, 10, 4_000), (16, 48, 300), (64, 256, 100)] {
+        let files = (0..count * times).map(move |seed| random_hall(n, rows, seed));
+        suites.push(suite(format!("sites: up to {n} junctions and {rows} rows"), files, sites));
+    }
     for (n, rows, count) in [(16, 48, 300), (64, 256, 30)] {
         let files = (0..count * times).map(move |seed| random_hall(n, rows, seed));
         suites.push(suite(format!("every total: up to {n} junctions and {rows} rows"), files, EVERY_TOTAL));
@@ -124,6 +130,7 @@ fn suites(times: u64) -> Vec<Suite> {
         suites.push(suite(format!("{what}, 8 junctions"), of_kinds(draw, 8, 12 * times), ALL_OF_SMALL));
         suites.push(suite(format!("every route: {what}, 64 junctions"), of_kinds(draw, 64, times), every_route));
         suites.push(suite(format!("one quote: {what}, 64 junctions"), of_kinds(draw, 64, 12 * times), quotes));
+        suites.push(suite(format!("sites: {what}, 64 junctions"), of_kinds(draw, 64, 3 * times), sites));
         suites.push(suite(format!("every total: {what}, 64 junctions"), of_kinds(draw, 64, times), EVERY_TOTAL));
         for n in [16, 32, 64] {
             suites.push(suite(format!("{what}, {n} junctions"), of_kinds(draw, n, 12 * times), ALL));

@@ -70,6 +70,15 @@ mod exported {
             without_length: usize,
             reply: &mut [u64; 3],
         ) -> u32;
+
+        pub fn himalowen_site_start(stock: u32, site: &mut [u32; 2059], reply: &mut [u64; 2]) -> u32;
+
+        pub fn himalowen_site_admit(
+            file: *const u8,
+            file_length: usize,
+            site: &mut [u32; 2059],
+            reply: &mut [u64; 2],
+        ) -> u32;
     }
 }
 
@@ -153,6 +162,22 @@ pub fn with_without(file: &[u8], with: &mut [u32], without: &mut [u32]) -> [u64;
             without.len(),
             &mut reply,
         );
+    }
+    reply
+}
+
+pub fn site_start(stock: u32, site: &mut [u32; 2059]) -> [u64; 2] {
+    let mut reply = [0; 2];
+    unsafe {
+        exported::himalowen_site_start(stock, site, &mut reply);
+    }
+    reply
+}
+
+pub fn site_admit(file: &[u8], site: &mut [u32; 2059]) -> [u64; 2] {
+    let mut reply = [0; 2];
+    unsafe {
+        exported::himalowen_site_admit(file.as_ptr(), file.len(), site, &mut reply);
     }
     reply
 }

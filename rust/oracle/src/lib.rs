@@ -10,6 +10,7 @@ mod hall;
 mod list;
 mod quote;
 mod route;
+mod site;
 mod small;
 
 pub use certificate::{faults, Claim};
@@ -23,6 +24,7 @@ pub use list::{judge, printed, words, Listed};
 pub use quote::{misquoted, quoted, requoted, Plan, Quoted};
 pub use reader::{Refusal, Row};
 pub use route::{first_routes, route, route_by_trying, Routed};
+pub use site::{site_admit, site_in, site_start, Site, Sited, SITE_PLACES};
 pub use small::{first_choice, has_fixed_cut, neighbourhood_by_shores, FEW, SMALL};
 
 use std::collections::BTreeMap;
