@@ -90,7 +90,8 @@ fn mark_unused(site: &mut Places, random: &mut Random) {
     }
 }
 
-/// With a telling number as its stock, kits left, number of halls, one of its lengths or a row.
+/// With a telling number as its stock, kits left, number of halls, one of its lengths or a row; at times the kits left are made
+/// to add up, modulo 2^32.
 fn damaged(mut site: Places, random: &mut Random) -> Places {
     let (length, any) = (random.within(3, 10), random.below(256));
     let row = 11 + 256 * random.below(8) + random.pick(&[0, 1, 2, any, 255]);
@@ -98,5 +99,9 @@ fn damaged(mut site: Places, random: &mut Random) -> Places {
     let (own, word) = (site[place], random.word() as u32);
     let less_or_more = random.pick(&[own.wrapping_sub(1), own.wrapping_add(1)]);
     site[place] = random.pick(&[less_or_more, less_or_more, 0, 8, 9, 256, 257, 2_048, 2_049, u32::MAX, word]);
+    if random.below(2) == 0 {
+        let opened = site_in(&site).plans.iter().flatten().count() as u32;
+        site[1] = site[0].wrapping_sub(opened);
+    }
     site
 }

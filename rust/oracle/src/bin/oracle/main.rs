@@ -9,8 +9,8 @@
 //!                                        it, or NONE, or FIXED; or REFUSED
 //!     oracle plan FILE                   the first joining choice: OPEN, its rows, TOTAL; or REFUSED
 //!     oracle site WORD...                a history of one site, a line for each word: a number starts it with so many kits,
-//!                                        PLACE=NUMBER puts a number into a place (SET), any other word is the FILE of a hall
-//!                                        to admit; after a call STOCK, LEFT and PLANS, their rows with commas, or REFUSED
+//!                                        PLACE=NUMBER puts a number into a place (SET), any other word is the FILE of a
+//!                                        hall to admit; after a call STOCK, LEFT and PLANS with their rows, or REFUSED
 //!     oracle list FILE                   a right printed list
 //!     oracle judge FILE LIST             RIGHT, or what is wrong with a printed list
 //!     oracle lines PROGRAM               what trychoices or tryroutes has to print
