@@ -61,8 +61,8 @@ enum { HIMALOWEN_ROWS_FILLED = 2 };
 #define HIMALOWEN_NONE UINT32_C(0xFFFFFFFF)
 #define HIMALOWEN_FIXED UINT32_C(0xFFFFFFFE)
 
-/* Places of a site: its stock, the kits left, how many halls it has, then the length of each hall's plan, then the plans' rows, those
- * of hall k, counted from 0, from place HIMALOWEN_SITE_ROWS + k * HIMALOWEN_ROW_PLACES on. */
+/* Places of a site: its stock, the kits left, how many halls it has, then the length of each hall's plan, then the plans' rows,
+ * those of hall k, counted from 0, from place HIMALOWEN_SITE_ROWS + k * HIMALOWEN_ROW_PLACES on. */
 enum {
     HIMALOWEN_SITE_STOCK = 0,
     HIMALOWEN_SITE_LEFT = 1,
@@ -127,10 +127,10 @@ uint32_t himalowen_with_without(const uint8_t *file, size_t file_length,
                                 uint32_t *without, size_t without_length,
                                 uint64_t reply[HIMALOWEN_TOTALS_PLACES]);
 
-/* A site is up to 8 halls on one stock of kits: the plan of each, in the order of admission, as an array of numbers. Any numbers may
- * be handed in. They are a sound site if the stock is at most 2,048, there are at most 8 halls, each plan's rows ascend strictly
- * from 1 to 256, and the kits left and the rows of all plans add up to the stock. What stands in the other places does not
- * matter; a call that is not refused leaves 0 in them. */
+/* A site is up to 8 halls on one stock of kits: the plan of each, in the order of admission, as an array of numbers. Any
+ * numbers may be handed in. They are a sound site if the stock is at most 2,048, there are at most 8 halls, each plan's rows
+ * ascend strictly from 1 to 256, and the kits left and the rows of all plans add up to the stock. What stands in the other
+ * places does not matter; a call that is not refused leaves 0 in them. */
 
 /* A site of so many kits and no hall; 12 if they are over 2,048, and then it is the site of stock 0. */
 uint32_t himalowen_site_start(uint32_t stock,

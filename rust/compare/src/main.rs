@@ -60,6 +60,11 @@ fn of_kinds(draw: Draw, n: usize, seeds: u64) -> impl Iterator<Item = Vec<u8>> {
     KINDS.into_iter().flat_map(move |kind| (0..seeds).map(move |seed| draw(kind, n, seed)))
 }
 
+/// Halls drawn by hand, and halls at the limits.
+fn telling() -> impl Iterator<Item = Vec<u8>> {
+    starred().into_iter().chain(fixed_halls()).chain(large_fixed_halls()).chain(sized_files())
+}
+
 fn suites(times: u64) -> Vec<Suite> {
     let too_short = starred().into_iter().chain(fixed_halls()).chain([vec![]]);
     let mut suites = vec![
@@ -92,8 +97,7 @@ fn suites(times: u64) -> Vec<Suite> {
         let files = (0..count * times).map(move |seed| random_hall(n, rows, seed));
         suites.push(suite(format!("every route: up to {n} junctions and {rows} rows"), files, every_route));
     }
-    let drawn = starred().into_iter().chain(fixed_halls()).chain(large_fixed_halls()).chain(sized_files());
-    suites.push(suite("one quote: halls drawn by hand, halls at the limits", drawn, quotes));
+    suites.push(suite("one quote: halls drawn by hand, halls at the limits", telling(), quotes));
     for (n, rows, prices) in [(2, 3, 3), (3, 3, 2)] {
         let what = format!("one quote: all halls, {n} junctions, {rows} rows");
         suites.push(suite(what, all_halls(n, rows, prices), quotes));
@@ -102,8 +106,7 @@ fn suites(times: u64) -> Vec<Suite> {
         let files = (0..count * times).map(move |seed| random_hall(n, rows, seed));
         suites.push(suite(format!("one quote: up to {n} junctions and {rows} rows"), files, quotes));
     }
-    let drawn = starred().into_iter().chain(fixed_halls()).chain(large_fixed_halls()).chain(sized_files());
-    suites.push(suite("sites: halls drawn by hand, halls at the limits", drawn, sites));
+    suites.push(suite("sites: halls drawn by hand, halls at the limits", telling(), sites));
     for (n, rows, count) in [(6, 10, 4_000), (16, 48, 300), (64, 256, 100)] {
         let files = (0..count * times).map(move |seed| random_hall(n, rows, seed));
         suites.push(suite(format!("sites: up to {n} junctions and {rows} rows"), files, sites));

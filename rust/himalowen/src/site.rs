@@ -30,7 +30,7 @@ pub struct Site {
 }
 
 impl Site {
-    /// With so many kits and no hall.
+    /// With so many kits and no hall; refused with 12 over 2,048.
     pub fn start(stock: u32) -> Result<Site, Refusal> {
         let mut places = [0; SITE_PLACES];
         site_start_into(stock, &mut places)?;
@@ -65,6 +65,7 @@ impl Site {
         plans.take(self.places[HALLS] as usize)
     }
 
+    /// All its numbers, as [`Site::from_places`] takes them.
     pub fn places(&self) -> &[u32; SITE_PLACES] {
         &self.places
     }

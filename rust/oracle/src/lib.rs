@@ -1,4 +1,4 @@
-//! The definitions of halls, joining choices, plans and cuts, tried out one by one. It shares no code with the proved
+//! The definitions of halls, joining choices, plans, cuts and sites, tried out one by one. It shares no code with the proved
 //! library, and believes no planner: small halls are decided by trying every set of junctions and every choice, large
 //! ones by certificates. Junctions and rows count from 1; junction j counts 2^(j - 1) in a set.
 

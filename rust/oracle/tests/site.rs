@@ -10,11 +10,10 @@ fn path(n: u16) -> Vec<u8> {
 
 /// One for each number of a refusal that a file may have.
 fn refused_files() -> [(Vec<u8>, [u64; 2]); 8] {
-    let four = hall_file(2, &[(1, 2, 1)])[..12].to_vec();
     [
         (vec![1, 0, 0], [2, 0]),
         (hall_file(65, &[]), [3, 0]),
-        (four, [4, 0]),
+        (hall_file(2, &[(1, 2, 1)])[..12].to_vec(), [4, 0]),
         (hall_file(2, &[(1, 2, 1); 257]), [5, 0]),
         (hall_file(2, &[(1, 2, 1), (1, 3, 1)]), [6, 2]),
         (hall_file(2, &[(1, 2, 1_000_001)]), [8, 1]),
