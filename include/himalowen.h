@@ -3,13 +3,14 @@
  * A list is a pointer, never NULL, and the number of its places, which may be 0. What a call may write overlaps nothing else
  * that it is lent. Junction j counts 2^(j - 1) in a junction set; rows and junctions count from 1.
  *
- * Every call gives back the refusal's number, 1 to 11 without 7, or 15, or 0 for none. The reply holds the same number, the
+ * Every call gives back the refusal's number, 1 to 15 without 7, or 0 for none. The reply holds the same number, the
  * refusal's row (0 where its kind carries none) and the results, which are 0 after a refusal; all its places are written.
- * Lists are written only where the number is 0, and then only in their first places, as many as the reply says.
+ * Lists are written only where the number is 0, and then only in their first places, as many as the reply says. A site is
+ * written, in all its places, where the number is 0, and also by a start that is refused.
  *
  * A row from a junction to itself is a row as any other: it has its number and may be chosen. No plan opens it.
  * A fixed row has its number too, but may not be chosen (10), and no plan opens it; a hall in which some directed cut
- * has fixed rows only is refused with 15, by every call, before 10.
+ * has fixed rows only is refused with 15, by every call that is lent its file, before 10, 13 and 14.
  */
 #ifndef HIMALOWEN_H
 #define HIMALOWEN_H
@@ -21,18 +22,20 @@
 extern "C" {
 #endif
 
-/* The number of places of each reply, and the least number of places of each list lent to a plan, to a route or to
- * himalowen_with_without. */
+/* The number of places of each reply, the least number of places of each list lent to a plan, to a route or to
+ * himalowen_with_without, and the number of places of a site. */
 enum {
     HIMALOWEN_TOLD_PLACES = 4,
     HIMALOWEN_ROUTED_PLACES = 5,
     HIMALOWEN_SCREENED_PLACES = 4,
     HIMALOWEN_PLANNED_PLACES = 4,
     HIMALOWEN_TOTALS_PLACES = 3,
+    HIMALOWEN_SITE_REPLY_PLACES = 2,
     HIMALOWEN_ROW_PLACES = 256,
     HIMALOWEN_CUT_PLACES = 125,
     HIMALOWEN_LEVEL_PLACES = 64,
-    HIMALOWEN_ROUTE_PLACES = 63
+    HIMALOWEN_ROUTE_PLACES = 63,
+    HIMALOWEN_SITE_PLACES = 2059
 };
 
 /* Places of every reply. */
@@ -57,6 +60,16 @@ enum { HIMALOWEN_ROWS_FILLED = 2 };
  * and in both for a fixed row. */
 #define HIMALOWEN_NONE UINT32_C(0xFFFFFFFF)
 #define HIMALOWEN_FIXED UINT32_C(0xFFFFFFFE)
+
+/* Places of a site: its stock, the kits left, how many halls it has, then the length of each hall's plan, then the plans' rows,
+ * those of hall k, counted from 0, from place HIMALOWEN_SITE_ROWS + k * HIMALOWEN_ROW_PLACES on. */
+enum {
+    HIMALOWEN_SITE_STOCK = 0,
+    HIMALOWEN_SITE_LEFT = 1,
+    HIMALOWEN_SITE_HALLS = 2,
+    HIMALOWEN_SITE_LENGTHS = 3,
+    HIMALOWEN_SITE_ROWS = 11
+};
 
 /* Outcomes. The set is the missed shore or the neighbourhood, else 0. */
 enum { HIMALOWEN_JOINS = 1, HIMALOWEN_MISSES = 2, HIMALOWEN_AROUND = 3, HIMALOWEN_ROUTE = 4 };
@@ -113,6 +126,23 @@ uint32_t himalowen_with_without(const uint8_t *file, size_t file_length,
                                 uint32_t *with, size_t with_length,
                                 uint32_t *without, size_t without_length,
                                 uint64_t reply[HIMALOWEN_TOTALS_PLACES]);
+
+/* A site is up to 8 halls on one stock of kits: the plan of each, in the order of admission, as an array of numbers. Any
+ * numbers may be handed in. They are a sound site if the stock is at most 2,048, there are at most 8 halls, each plan's rows
+ * ascend strictly from 1 to 256, and the kits left and the rows of all plans add up to the stock. What stands in the other
+ * places does not matter; a call that is not refused leaves 0 in them. */
+
+/* A site of so many kits and no hall; 12 if they are over 2,048, and then it is the site of stock 0. */
+uint32_t himalowen_site_start(uint32_t stock,
+                              uint32_t site[HIMALOWEN_SITE_PLACES],
+                              uint64_t reply[HIMALOWEN_SITE_REPLY_PLACES]);
+
+/* The site with one hall more: its plan is the rows of himalowen_plan_rows, and each of them takes a kit. 12 if the site is not
+ * sound, before the file's refusals; after them 13 if it has 8 halls already, then 14 if the plan has more rows than kits are
+ * left. */
+uint32_t himalowen_site_admit(const uint8_t *file, size_t file_length,
+                              uint32_t site[HIMALOWEN_SITE_PLACES],
+                              uint64_t reply[HIMALOWEN_SITE_REPLY_PLACES]);
 
 #ifdef __cplusplus
 }

@@ -2,7 +2,7 @@
 
 use compare::{Lists, Planner};
 
-use crate::calls::{times, Call, Case, CHECK, ROUTES, ROWS, TOTALS};
+use crate::calls::{times, Call, Case, ADMISSION, CHECK, ROUTES, ROWS, TOTALS};
 use crate::table::median_and_worst;
 
 /// Two calls on the same full halls, in turns.
@@ -31,7 +31,15 @@ const TOTALS_BESIDE_ROWS: Beside = Beside {
     often: |_| 1,
 };
 
-pub const BESIDE: [Beside; 2] = [ROUTE_BESIDE_CHECK, TOTALS_BESIDE_ROWS];
+const ADMISSION_BESIDE_ROWS: Beside = Beside {
+    heading: "An admission beside a plan",
+    what: "Of a full hall to a site that has no hall, in turns, and a plan by the rows' call alone.",
+    names: ["plan", "admission"],
+    calls: [ROWS, ADMISSION],
+    often: |_| 1,
+};
+
+pub const BESIDE: [Beside; 3] = [ROUTE_BESIDE_CHECK, TOTALS_BESIDE_ROWS, ADMISSION_BESIDE_ROWS];
 
 impl Beside {
     pub fn print_head(&self, planners: &[Planner]) {

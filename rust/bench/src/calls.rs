@@ -4,7 +4,7 @@ use std::hint::black_box;
 use std::time::Instant;
 
 use compare::{Lists, Planner};
-use reference::Counts;
+use reference::{Counts, SITE_PLACES};
 
 pub const RUNS: usize = 9;
 
@@ -106,7 +106,18 @@ pub const TOTALS: Call = Call {
     },
 };
 
-pub const CALLS: [Call; 7] = [ROWS, CUTS, CHECK, TIGHT, ROUTES, FIGURES, TOTALS];
+pub const ADMISSION: Call = Call {
+    name: "Admission",
+    what: "The hall is put on a site of 2,048 kits that has no hall.",
+    counts: None,
+    run: |planner, case, _| {
+        let mut site = [0; SITE_PLACES];
+        site[..2].fill(2_048);
+        black_box((planner.admit)(black_box(&case.file), &mut site));
+    },
+};
+
+pub const CALLS: [Call; 8] = [ROWS, CUTS, CHECK, TIGHT, ROUTES, FIGURES, TOTALS, ADMISSION];
 
 impl Call {
     /// Nanoseconds of each planner.

@@ -1,13 +1,15 @@
-//! The planners that there are, behind the same seven calls, and what each call must answer.
+//! The planners that there are, behind the same nine calls, and what each call must answer.
 
 mod expect;
 mod quotes;
 mod routes;
+mod site;
 mod with_without;
 
 pub use expect::{calls_with_a_choice, first_plan, plan, short_lists, small_plan};
 pub use quotes::quotes;
 pub use routes::every_route;
+pub use site::sites;
 pub use with_without::{short_columns, with_without};
 
 /// Number, row, outcome, set.
@@ -54,6 +56,9 @@ pub type Plan = fn(&[u8], &mut Lists) -> Planned;
 /// Into two lent lists.
 pub type Totals = fn(&[u8], &mut [u32], &mut [u32]) -> oracle::Figured;
 
+/// The places of a site, each call's to write.
+pub type Places = [u32; oracle::SITE_PLACES];
+
 pub struct Planner {
     pub name: &'static str,
     pub check: fn(&[u8], &[u32]) -> Told,
@@ -63,6 +68,8 @@ pub struct Planner {
     pub rows: Plan,
     pub cuts: Plan,
     pub totals: Totals,
+    pub start: fn(u32, &mut Places) -> oracle::Sited,
+    pub admit: fn(&[u8], &mut Places) -> oracle::Sited,
 }
 
 /// A planner by its name and its crate; the crates have the same calls over types of their own.
@@ -78,6 +85,9 @@ macro_rules! planner {
                 Ok($of::Finding::Around(set)) => [0, 0, 3, set],
                 Err(refusal) => refused(refusal),
             }
+        }
+        fn sited(reply: Result<(), $of::Refusal>) -> oracle::Sited {
+            reply.map_or_else(|refusal| [refusal.number.into(), refusal.row.into()], |()| [0, 0])
         }
         Planner {
             name: $name,
@@ -107,6 +117,8 @@ macro_rules! planner {
                 Ok(filled) => [0, 0, filled as u64],
                 Err(refusal) => [refusal.number.into(), refusal.row.into(), 0],
             },
+            start: |stock, site| sited($of::site_start_into(stock, site)),
+            admit: |file, site| sited($of::site_admit_into(file, site)),
         }
     }};
 }

@@ -2,8 +2,8 @@
 //! `compare [TIMES]` tries so many times as many random halls.
 
 use compare::{
-    calls_with_a_choice, every_route, first_plan, plan, planners, quotes, short_columns, short_lists, small_plan,
-    with_without, Planner,
+    calls_with_a_choice, every_route, first_plan, plan, planners, quotes, short_columns, short_lists, sites,
+    small_plan, with_without, Planner,
 };
 use halls::{
     all_halls, damaged, fixed_hall, fixed_halls, full_hall, large_fixed_halls, looped_hall, random_files, random_hall,
@@ -60,6 +60,11 @@ fn of_kinds(draw: Draw, n: usize, seeds: u64) -> impl Iterator<Item = Vec<u8>> {
     KINDS.into_iter().flat_map(move |kind| (0..seeds).map(move |seed| draw(kind, n, seed)))
 }
 
+/// Halls drawn by hand, and halls at the limits.
+fn telling() -> impl Iterator<Item = Vec<u8>> {
+    starred().into_iter().chain(fixed_halls()).chain(large_fixed_halls()).chain(sized_files())
+}
+
 fn suites(times: u64) -> Vec<Suite> {
     let too_short = starred().into_iter().chain(fixed_halls()).chain([vec![]]);
     let mut suites = vec![
@@ -92,8 +97,7 @@ fn suites(times: u64) -> Vec<Suite> {
         let files = (0..count * times).map(move |seed| random_hall(n, rows, seed));
         suites.push(suite(format!("every route: up to {n} junctions and {rows} rows"), files, every_route));
     }
-    let drawn = starred().into_iter().chain(fixed_halls()).chain(large_fixed_halls()).chain(sized_files());
-    suites.push(suite("one quote: halls drawn by hand, halls at the limits", drawn, quotes));
+    suites.push(suite("one quote: halls drawn by hand, halls at the limits", telling(), quotes));
     for (n, rows, prices) in [(2, 3, 3), (3, 3, 2)] {
         let what = format!("one quote: all halls, {n} junctions, {rows} rows");
         suites.push(suite(what, all_halls(n, rows, prices), quotes));
@@ -101,6 +105,11 @@ fn suites(times: u64) -> Vec<Suite> {
     for (n, rows, count) in [(6, 10, 10_000), (16, 48, 1_000), (64, 256, 100)] {
         let files = (0..count * times).map(move |seed| random_hall(n, rows, seed));
         suites.push(suite(format!("one quote: up to {n} junctions and {rows} rows"), files, quotes));
+    }
+    suites.push(suite("sites: halls drawn by hand, halls at the limits", telling(), sites));
+    for (n, rows, count) in [(6, 10, 4_000), (16, 48, 300), (64, 256, 100)] {
+        let files = (0..count * times).map(move |seed| random_hall(n, rows, seed));
+        suites.push(suite(format!("sites: up to {n} junctions and {rows} rows"), files, sites));
     }
     for (n, rows, count) in [(16, 48, 300), (64, 256, 30)] {
         let files = (0..count * times).map(move |seed| random_hall(n, rows, seed));
@@ -124,6 +133,7 @@ fn suites(times: u64) -> Vec<Suite> {
         suites.push(suite(format!("{what}, 8 junctions"), of_kinds(draw, 8, 12 * times), ALL_OF_SMALL));
         suites.push(suite(format!("every route: {what}, 64 junctions"), of_kinds(draw, 64, times), every_route));
         suites.push(suite(format!("one quote: {what}, 64 junctions"), of_kinds(draw, 64, 12 * times), quotes));
+        suites.push(suite(format!("sites: {what}, 64 junctions"), of_kinds(draw, 64, 3 * times), sites));
         suites.push(suite(format!("every total: {what}, 64 junctions"), of_kinds(draw, 64, times), EVERY_TOTAL));
         for n in [16, 32, 64] {
             suites.push(suite(format!("{what}, {n} junctions"), of_kinds(draw, n, 12 * times), ALL));

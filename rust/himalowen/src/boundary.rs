@@ -1,7 +1,11 @@
 //! The static library's calls, as include/himalowen.h declares them: a slice is a pointer and a length, an array a
 //! pointer. Rust's references are never null, and those that may be written overlap nothing; the calls need no more.
 
+use crate::SITE_PLACES;
+
 mod exported {
+    use super::SITE_PLACES;
+
     extern "C" {
         pub fn himalowen_check(
             file: *const u8,
@@ -69,6 +73,15 @@ mod exported {
             without: *mut u32,
             without_length: usize,
             reply: &mut [u64; 3],
+        ) -> u32;
+
+        pub fn himalowen_site_start(stock: u32, site: &mut [u32; SITE_PLACES], reply: &mut [u64; 2]) -> u32;
+
+        pub fn himalowen_site_admit(
+            file: *const u8,
+            file_length: usize,
+            site: &mut [u32; SITE_PLACES],
+            reply: &mut [u64; 2],
         ) -> u32;
     }
 }
@@ -153,6 +166,22 @@ pub fn with_without(file: &[u8], with: &mut [u32], without: &mut [u32]) -> [u64;
             without.len(),
             &mut reply,
         );
+    }
+    reply
+}
+
+pub fn site_start(stock: u32, site: &mut [u32; SITE_PLACES]) -> [u64; 2] {
+    let mut reply = [0; 2];
+    unsafe {
+        exported::himalowen_site_start(stock, site, &mut reply);
+    }
+    reply
+}
+
+pub fn site_admit(file: &[u8], site: &mut [u32; SITE_PLACES]) -> [u64; 2] {
+    let mut reply = [0; 2];
+    unsafe {
+        exported::himalowen_site_admit(file.as_ptr(), file.len(), site, &mut reply);
     }
     reply
 }

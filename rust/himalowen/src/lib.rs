@@ -5,11 +5,15 @@
 
 #[allow(unsafe_code)]
 mod boundary;
+mod site;
+
+pub use site::{site_admit_into, site_start_into, Site};
 
 pub const ROW_PLACES: usize = 256;
 pub const CUT_PLACES: usize = 125;
 pub const LEVEL_PLACES: usize = 64;
 pub const ROUTE_PLACES: usize = 63;
+pub const SITE_PLACES: usize = 2059;
 
 /// In the list of totals without each row: every joining choice has the row.
 pub const NONE: u32 = 0xFFFF_FFFF;
@@ -17,7 +21,7 @@ pub const NONE: u32 = 0xFFFF_FFFF;
 /// In both lists of totals: the row is fixed.
 pub const FIXED: u32 = 0xFFFF_FFFE;
 
-/// Why a call was turned back: 1 to 11 without 7, or 15, and the row for 6 and 8, else 0.
+/// Why a call was turned back: 1 to 15 without 7, and the row for 6 and 8, else 0.
 #[derive(Clone, Copy, Debug, PartialEq, Eq)]
 pub struct Refusal {
     pub number: u32,

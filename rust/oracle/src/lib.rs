@@ -1,4 +1,4 @@
-//! The definitions of halls, joining choices, plans and cuts, tried out one by one. It shares no code with the proved
+//! The definitions of halls, joining choices, plans, cuts and sites, tried out one by one. It shares no code with the proved
 //! library, and believes no planner: small halls are decided by trying every set of junctions and every choice, large
 //! ones by certificates. Junctions and rows count from 1; junction j counts 2^(j - 1) in a set.
 
@@ -10,6 +10,7 @@ mod hall;
 mod list;
 mod quote;
 mod route;
+mod site;
 mod small;
 
 pub use certificate::{faults, Claim};
@@ -23,6 +24,7 @@ pub use list::{judge, printed, words, Listed};
 pub use quote::{misquoted, quoted, requoted, Plan, Quoted};
 pub use reader::{Refusal, Row};
 pub use route::{first_routes, route, route_by_trying, Routed};
+pub use site::{site_admit, site_in, site_start, Site, Sited, SITE_PLACES};
 pub use small::{first_choice, has_fixed_cut, neighbourhood_by_shores, FEW, SMALL};
 
 use std::collections::BTreeMap;

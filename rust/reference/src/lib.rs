@@ -1,5 +1,5 @@
 //! Opening lanes at least cost: the method of the proved library in plain Rust, unproved.
-//! It is the baseline for benchmarks and answers the same seven calls. Inside, junctions and rows count from 0.
+//! It is the baseline for benchmarks and answers the same nine calls. Inside, junctions and rows count from 0.
 
 mod choice;
 mod cuts;
@@ -7,10 +7,12 @@ mod hall;
 mod planner;
 mod route;
 mod sets;
+mod site;
 mod tight;
 
 pub use planner::Counts;
 pub use reader::Refusal;
+pub use site::{site_admit_into, site_start_into};
 
 use choice::Choice;
 
@@ -18,6 +20,7 @@ pub const ROW_PLACES: usize = 256;
 pub const CUT_PLACES: usize = 125;
 pub const LEVEL_PLACES: usize = 64;
 pub const ROUTE_PLACES: usize = 63;
+pub const SITE_PLACES: usize = 2059;
 
 /// In a list of totals without a row: every joining choice has the row.
 pub const NONE: u32 = 0xFFFF_FFFF;

@@ -8,6 +8,9 @@
 //!     oracle totals FILE                 ROWS n, and a line for each: its number and the least totals with it and without
 //!                                        it, or NONE, or FIXED; or REFUSED
 //!     oracle plan FILE                   the first joining choice: OPEN, its rows, TOTAL; or REFUSED
+//!     oracle site WORD...                a history of one site, a line for each word: a number starts it with so many kits,
+//!                                        PLACE=NUMBER puts a number into a place (SET), any other word is the FILE of a
+//!                                        hall to admit; after a call STOCK, LEFT and PLANS with their rows, or REFUSED
 //!     oracle list FILE                   a right printed list
 //!     oracle judge FILE LIST             RIGHT, or what is wrong with a printed list
 //!     oracle lines PROGRAM               what trychoices or tryroutes has to print
@@ -16,6 +19,7 @@
 
 mod choices;
 mod drawn;
+mod history;
 mod plans;
 mod routes;
 
@@ -24,7 +28,7 @@ use std::process::ExitCode;
 use oracle::{hall_in, holds, words, Told, SMALL};
 
 const USAGE: &str =
-    "usage: oracle read|check|tight|route|figure|totals|plan|list|judge|lines ..., as src/bin/oracle/main.rs says";
+    "usage: oracle read|check|tight|route|figure|totals|plan|site|list|judge|lines ..., as src/bin/oracle/main.rs says";
 
 /// The answer, or what is wrong.
 fn answer(request: &[&str]) -> Result<String, String> {
@@ -39,6 +43,7 @@ fn answer(request: &[&str]) -> Result<String, String> {
         ["figure", name, rows, figure] => screened(&file(name)?, &choice(rows)?, number(figure)?),
         ["totals", name] => plans::figures(&file(name)?),
         ["plan", name] => plans::choice(&file(name)?),
+        ["site", ref steps @ ..] => history::lines(steps)?,
         ["list", name] => plans::list(&file(name)?),
         ["judge", name, list] => judge(name, &String::from_utf8_lossy(&file(list)?))?,
         ["lines", "trychoices"] => choices::lines(),

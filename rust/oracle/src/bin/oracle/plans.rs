@@ -33,6 +33,11 @@ pub fn refused(refusal: Refusal) -> String {
     format!("REFUSED {} {}\n", refusal.number, refusal.row)
 }
 
+/// The first joining choice of an accepted hall.
+pub fn rows(file: &[u8]) -> Vec<u32> {
+    plan(file).expect("the hall is accepted").1.rows
+}
+
 pub fn choice(file: &[u8]) -> String {
     told(file, |_, plan| format!("OPEN {}{} TOTAL {}\n", plan.rows.len(), words(&plan.rows), plan.total))
 }
