@@ -13,6 +13,7 @@ use Rattle.screening.specs.declared.Screened.{Screened}
 use Rattle.screening.specs.Figure.{FigureSays}
 use Rattle.oneplan.specs.Plan.{RowsSays, PairSays}
 use Rattle.withwithout.specs.Figures.{FiguresSays}
+use Rattle.stock.specs.Places.{StartLeaves, AdmitLeaves}
 
 -- number, row, outcome, set
 unfoldable pub told_places : Result Finding Kind → List ℕ
@@ -56,3 +57,11 @@ PairLeaves bs r v a x b y d w = (f : Refusal) × (q l : ℕ) × PairSays bs f q 
 -- and for the least totals with and without each row: number, row and filled, with the lent lists before and after
 unfoldable pub FiguresLeaves : List ℕ → (returned : ℕ) → (reply a a_now b b_now : List ℕ) → Type 0
 FiguresLeaves bs r v a x b y = (f : Refusal) × (k : ℕ) × FiguresSays bs f k a x b y × (v ≡ f.number ∷ f.place ∷ k ∷ []) × (r ≡ f.number)
+
+-- of a site's calls the reply is number and row, and every place of the site is said: after a start
+unfoldable pub SiteStartLeaves : (stock returned : ℕ) → (reply after : List ℕ) → Type 0
+SiteStartLeaves k r v y = (f : Refusal) × StartLeaves k f y × (v ≡ f.number ∷ f.place ∷ []) × (r ≡ f.number)
+
+-- and after an admission
+unfoldable pub SiteAdmitLeaves : List ℕ → (returned : ℕ) → (reply before after : List ℕ) → Type 0
+SiteAdmitLeaves bs r v x y = (f : Refusal) × AdmitLeaves x bs f y × (v ≡ f.number ∷ f.place ∷ []) × (r ≡ f.number)

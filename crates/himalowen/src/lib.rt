@@ -6,7 +6,7 @@ ghost use Rattle.refusals.specs.Kinds.{refusal_of, answered, figure};
 ghost use Rattle.planrows.specs.declared.PlannedRows.{PlannedRows};
 ghost use Rattle.planpairs.specs.declared.PlannedCuts.{PlannedCuts};
 ghost use Rattle.withwithout.specs.declared.Filled.{Filled};
-ghost use Rattle.himalowen.specs.Replies.{CheckLeaves, TightLeaves, RouteLeaves, FigureLeaves, RowsLeaves, PairLeaves, FiguresLeaves, told_places, routed_places, screened_places};
+ghost use Rattle.himalowen.specs.Replies.{CheckLeaves, TightLeaves, RouteLeaves, FigureLeaves, RowsLeaves, PairLeaves, FiguresLeaves, SiteStartLeaves, SiteAdmitLeaves, told_places, routed_places, screened_places};
 
 use answers::Finding;
 use planpairs::PlannedCuts;
@@ -14,6 +14,7 @@ use planrows::PlannedRows;
 use refusals::Kind;
 use routing::Way;
 use screening::Screened;
+use site::Site;
 use withwithout::Filled;
 
 // The number of a reply's refusal, 0 for none: C callers read a number.
@@ -101,6 +102,16 @@ fn figures_places(filled: Result<Filled, Kind>) -> [u64; 3]
     }
 }
 
+#[tactic(auto, unfolding(refusals::specs::Kinds::answered, hall::specs::File::refusal))]
+fn answer_places(answer: Result<(), Kind>) -> [u64; 2]
+    ensures { result ≡ (answered answer).number ∷ (answered answer).place ∷ [] }
+{
+    match answer {
+        Ok(()) => [0, 0],
+        Err(kind) => refused(kind),
+    }
+}
+
 #[tactic(auto, unfolding(crate::specs::Replies::CheckLeaves))]
 pub fn himalowen_check(file: &[u8], choice: &[u32], reply: &mut [u64; 4]) -> u32
     ensures { CheckLeaves file.now choice.now result reply.new }
@@ -181,4 +192,24 @@ pub fn himalowen_with_without(
     let filled = withwithout::with_without(file, with, without);
     *reply = figures_places(filled);
     number_of(filled)
+}
+
+#[tactic(auto, unfolding(crate::specs::Replies::SiteStartLeaves))]
+pub fn himalowen_site_start(stock: u32, site: &mut [u32; 2059], reply: &mut [u64; 2]) -> u32
+    ensures { SiteStartLeaves stock result reply.new site.new }
+{
+    let started = admitting::start(stock);
+    *site = started.site.places();
+    *reply = answer_places(started.answer);
+    number_of(started.answer)
+}
+
+#[tactic(auto, unfolding(crate::specs::Replies::SiteAdmitLeaves))]
+pub fn himalowen_site_admit(file: &[u8], site: &mut [u32; 2059], reply: &mut [u64; 2]) -> u32
+    ensures { SiteAdmitLeaves file.now result reply.new site.old site.new }
+{
+    let admitted = admitting::admit(Site::of_places(site), file);
+    *site = admitted.site.places();
+    *reply = answer_places(admitted.answer);
+    number_of(admitted.answer)
 }

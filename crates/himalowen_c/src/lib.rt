@@ -1,7 +1,7 @@
 // The exports of libhimalowen.a, as include/himalowen.h declares them: each is the call of that name in `himalowen`, with its promise.
 #![tactic(auto)]
 
-ghost use Rattle.himalowen.specs.Replies.{CheckLeaves, TightLeaves, RouteLeaves, FigureLeaves, RowsLeaves, PairLeaves, FiguresLeaves};
+ghost use Rattle.himalowen.specs.Replies.{CheckLeaves, TightLeaves, RouteLeaves, FigureLeaves, RowsLeaves, PairLeaves, FiguresLeaves, SiteStartLeaves, SiteAdmitLeaves};
 
 #[unsafe(no_mangle)]
 pub extern "C" fn himalowen_check(file: &[u8], choice: &[u32], reply: &mut [u64; 4]) -> u32
@@ -79,4 +79,26 @@ pub extern "C" fn himalowen_with_without(
     ensures { FiguresLeaves file.now result reply.new with.old with.new without.old without.new }
 {
     himalowen::himalowen_with_without(file, with, without, reply)
+}
+
+#[unsafe(no_mangle)]
+pub extern "C" fn himalowen_site_start(
+    stock: u32,
+    site: &mut [u32; 2059],
+    reply: &mut [u64; 2],
+) -> u32
+    ensures { SiteStartLeaves stock result reply.new site.new }
+{
+    himalowen::himalowen_site_start(stock, site, reply)
+}
+
+#[unsafe(no_mangle)]
+pub extern "C" fn himalowen_site_admit(
+    file: &[u8],
+    site: &mut [u32; 2059],
+    reply: &mut [u64; 2],
+) -> u32
+    ensures { SiteAdmitLeaves file.now result reply.new site.old site.new }
+{
+    himalowen::himalowen_site_admit(file, site, reply)
 }
