@@ -68,7 +68,7 @@ impl Site {
     }
 
     // The plan of the hall at a place, from 0.
-    pub fn plan(&self, k: usize) -> &[u32]
+    fn plan(&self, k: usize) -> &[u32]
         requires { (k < self.now.halls) × (self.now.halls ≤ 8) × (get_or self.now.lengths k 0 ≤ 256) }
         ensures { result.now ≡ get_or (site_of self.now).plans k [] }
     {
