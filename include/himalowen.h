@@ -5,8 +5,8 @@
  *
  * Every call gives back the refusal's number, 1 to 15 without 7, or 0 for none. The reply holds the same number, the
  * refusal's row (0 where its kind carries none) and the results, which are 0 after a refusal; all its places are written.
- * Lists are written only where the number is 0, and then only in their first places, as many as the reply says. A site is
- * written, in all its places, where the number is 0, and also by a start that is refused.
+ * Lists are written only where the number is 0, and then only in their first places, as many as the reply says. All places of
+ * a site are written where the number is 0 or a start is refused; any other refusal leaves in each what it held.
  *
  * A row from a junction to itself is a row as any other: it has its number and may be chosen. No plan opens it.
  * A fixed row has its number too, but may not be chosen (10), and no plan opens it; a hall in which some directed cut
