@@ -1,16 +1,17 @@
 -- The statements of specs/Promise.antt, proved: a history keeps a site sound, a file has one plan, and a sound site is read back from its places. Assumes nothing.
-use mathlib.Core.Path.{◌≡◌, refl, ap, ◌∙◌}
+use mathlib.Core.Path.{◌≡◌, refl, sym, ap, ◌∙◌}
 use mathlib.Core.Bool.{true, cond}
 use mathlib.Core.List.{List, [], ◌∷◌, ◌++◌}
 use Prim.Native.Nat.{ℕ}
 use lib.Dec.{eqb}
+use Rattle.laws.proofs.Booleans.{by_bool, cond_true, cond_false}
 use Rattle.hall.specs.File.{Refusal, refusal, hall_in}
 use Rattle.order.proofs.First.{first_alone}
 use Rattle.stock.specs.Site.{Site, site, sound, started, admitted, AdmitSays, History, begun, let_in}
-use Rattle.stock.specs.Places.{site_in, places, AdmitLeaves}
-use Rattle.stock.specs.Promise.{StockKept, PlanAlone, PlacesStand, DamagedRefused, AdmitAlone}
+use Rattle.stock.specs.Places.{site_in, places, StartLeaves, AdmitLeaves, first_left, next_left}
+use Rattle.stock.specs.Promise.{StockKept, PlanAlone, PlacesStand, HistoryHeld, DamagedRefused, AdmitAlone}
 use Rattle.stock.proofs.Answered.{damaged_answer}
-use Rattle.stock.proofs.Admission.{started_sound, admitted_plan, admission_sound, admission_alone}
+use Rattle.stock.proofs.Admission.{started_sound, admitted_plan, refused_stays, admission_sound, admission_alone}
 use Rattle.stock.proofs.Plans.{sound_parts}
 use Rattle.stock.proofs.ReadBack.{places_length, read_back}
 
@@ -37,6 +38,25 @@ plan_alone s t u v bs f g bytes says other z y =
 pub places_stand : PlacesStand
 unfolding PlacesStand
 places_stand s e = (read_back s e, places_length s)
+
+-- one admission more: the places are those of the site after it, refused or not
+held_next : (k : ℕ) (s : Site) (bs ys : List ℕ) (f : Refusal) → History k s → AdmitLeaves (places s) bs f ys → (t : Site) × History k t × (ys ≡ places t)
+unfolding AdmitLeaves
+held_next k s bs ys f past (t, says, left) =
+    let back = read_back s (history_sound k s past).1 in
+    let here : AdmitSays s bs f t = rw back at says in (
+      t,
+      let_in s t bs f past here,
+      by_bool (eqb f.number 0) (λ e. left ∙ cond_true (eqb f.number 0) (places t) (places s) e)
+          (λ e. left ∙ cond_false (eqb f.number 0) (places t) (places s) e ∙ ap places (sym (refused_stays s t bs f here e))),
+    )
+
+pub history_held : HistoryHeld
+unfolding HistoryHeld StartLeaves
+history_held k _ (first_left xs f left) = (started k, begun, left.1)
+history_held k _ (next_left xs ys bs f past left) =
+    let w = history_held k xs past in
+    held_next k w.0 bs ys f w.1 (rw w.2 at left)
 
 pub damaged_refused : DamagedRefused
 unfolding DamagedRefused AdmitLeaves AdmitSays refusal

@@ -39,3 +39,8 @@ StartLeaves k f ys = (f ≡ start_refusal k) × (ys ≡ places (started k))
 -- THE PLACES AFTER AN ADMISSION: all as they came where it is refused
 unfoldable pub AdmitLeaves : (before bs : List ℕ) → (answered : Refusal) → (after : List ℕ) → Type 0
 AdmitLeaves xs bs f ys = (t : Site) × AdmitSays (site_in xs) bs f t × (ys ≡ cond (eqb f.number 0) (places t) xs)
+
+-- EVERY HISTORY OF PLACES from a start with k kits, as a caller holds them: each call is handed what the one before has left
+pub data PlacesHistory (k : ℕ) : List ℕ → Type 0 where
+  first_left : (xs : List ℕ) (f : Refusal) → StartLeaves k f xs → PlacesHistory k xs
+  next_left : (xs ys bs : List ℕ) (f : Refusal) → PlacesHistory k xs → AdmitLeaves xs bs f ys → PlacesHistory k ys

@@ -3,7 +3,7 @@ use Rattle.std.specs.Prelude.{◌≡◌, true, false, List, [], ◌∷◌, ◌++
 use Rattle.hall.specs.File.{Refusal, refusal}
 use Rattle.joining.specs.Promise.{all_bytes}
 use Rattle.stock.specs.Site.{Site, opened_rows, sound, started, AdmitSays, History}
-use Rattle.stock.specs.Places.{site_in, places, AdmitLeaves}
+use Rattle.stock.specs.Places.{site_in, places, AdmitLeaves, PlacesHistory}
 
 -- after any calls the kits left are the STARTING stock (0 where the start was refused) less the opened rows of the listed plans, and 12 never comes
 unfoldable pub StockKept : Type 0
@@ -20,6 +20,10 @@ PlanAlone =
 -- a sound site is read back from its places
 unfoldable pub PlacesStand : Type 0
 PlacesStand = (s : Site) → sound s ≡ true → (site_in (places s) ≡ s) × (length (places s) ≡ 2059)
+
+-- what a caller holds after any calls are the places of a site to which such calls lead
+unfoldable pub HistoryHeld : Type 0
+HistoryHeld = (k : ℕ) (xs : List ℕ) → PlacesHistory k xs → (s : Site) × History k s × (xs ≡ places s)
 
 -- numbers that stand for no sound site are refused with 12 and stay as they are, whatever the file
 unfoldable pub DamagedRefused : Type 0
