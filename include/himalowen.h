@@ -10,7 +10,7 @@
  *
  * A row from a junction to itself is a row as any other: it has its number and may be chosen. No plan opens it.
  * A fixed row has its number too, but may not be chosen (10), and no plan opens it; a hall in which some directed cut
- * has fixed rows only is refused with 15, by every call that is lent its file, before 10, 13 and 14.
+ * has fixed rows only is refused with 15, by every call that is lent its file, before 10, 11, 13 and 14.
  */
 #ifndef HIMALOWEN_H
 #define HIMALOWEN_H

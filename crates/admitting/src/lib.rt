@@ -50,7 +50,7 @@ fn with_hall(site: &Site, file: &[u8]) -> Result<Site, Kind>
     Ok(site.with_plan(&rows[..plan.chosen as usize]))
 }
 
-// A hall is admitted: its plan takes the last place of the list, and a kit for each row that it opens. Refusal 12, then 2 to 9 and 15, then 13 and 14; then the site is as it came.
+// The site with a hall admitted to it: refusals 12, 2 to 9, 15, 13 and 14 in their order, and after one the site as it came.
 pub fn admit(site: Site, file: &[u8]) -> Reply
     ensures { AdmitLeaves (numbers site) file.now (answered result.answer) (numbers result.site) }
 {

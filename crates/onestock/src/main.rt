@@ -7,13 +7,13 @@ use std::cell::Cell;
 use std::io;
 use std::rt::Files;
 
-// The rows of a plan with commas, - for none.
-fn print_plan(rt: &impl Print, plan: &[u32]) -> io::Result<()> {
+// The first rows of a plan's places with commas, - for none.
+fn print_plan(rt: &impl Print, rows: &[u32], count: usize) -> io::Result<()> {
     print!(rt; " ")?;
-    if plan.is_empty() {
+    if count == 0 {
         return print!(rt; "-");
     }
-    for (i, row) in plan.iter().enumerate() {
+    for (i, row) in rows.iter().take(count).enumerate() {
         let comma = if i == 0 { "" } else { "," };
         print!(rt; "{comma}{row}")?;
     }
@@ -23,8 +23,8 @@ fn print_plan(rt: &impl Print, plan: &[u32]) -> io::Result<()> {
 fn print_site(rt: &impl Print, site: &Site) -> io::Result<()> {
     print!(rt; "STOCK {} LEFT {} PLANS", site.stock, site.left)?;
     let halls = site.rows.chunks(256).zip(&site.lengths);
-    for (rows, length) in halls.take(site.halls as usize) {
-        print_plan(rt, rows.get(..*length as usize).unwrap_or(rows))?;
+    for (rows, count) in halls.take(site.halls as usize) {
+        print_plan(rt, rows, *count as usize)?;
     }
     println!(rt;)
 }
@@ -38,7 +38,7 @@ fn keep(rt: &impl Print, kept: &Cell<Site>, reply: Reply) -> io::Result<()> {
     }
 }
 
-// The site with another number in one of its places; no other place is one of them.
+// The site with another number in one of its places, counted from 0. A place that it has not is passed over.
 fn with_number(site: &Site, place: u32, number: u32) -> Site {
     let mut places = site.places();
     if let Some(held) = places.get_mut(place as usize) {
@@ -47,21 +47,24 @@ fn with_number(site: &Site, place: u32, number: u32) -> Site {
     Site::of_places(&places)
 }
 
-fn answer<R: Files + Print + Eprint>(
-    rt: &R,
-    kept: &Cell<Site>,
-    words: &[String],
-) -> io::Result<()> {
-    let word = input::argument(words, 0);
+fn is_number(word: &str) -> bool {
+    !word.is_empty() && word.bytes().all(|byte| byte.is_ascii_digit())
+}
+
+// The one number of a word.
+fn number(word: &str) -> u32 {
+    console::first_of(console::numbers_in(word.as_bytes()).as_slice())
+}
+
+fn answer<R: Files + Print + Eprint>(rt: &R, kept: &Cell<Site>, word: &str) -> io::Result<()> {
     print!(rt; "{word}: ")?;
-    let numbers = console::numbers_in(word.as_bytes());
-    match (word.contains('='), numbers.as_slice()) {
-        (true, &[place, number]) => {
-            kept.set(with_number(&kept.get(), place, number));
+    if is_number(word) {
+        return keep(rt, kept, admitting::start(number(word)));
+    }
+    match word.split_once('=') {
+        Some((place, held)) if is_number(place) && is_number(held) => {
+            kept.set(with_number(&kept.get(), number(place), number(held)));
             println!(rt; "SET")
-        }
-        (false, &[stock]) if word.bytes().all(|byte| byte.is_ascii_digit()) => {
-            keep(rt, kept, admitting::start(stock))
         }
         _ => input::answer_file(rt, word, |file| {
             keep(rt, kept, admitting::admit(kept.get(), file))
@@ -71,5 +74,7 @@ fn answer<R: Files + Print + Eprint>(
 
 fn main(rt: HostRuntime) -> io::Result<()> {
     let kept = Cell::new(Site::of_stock(0));
-    input::answer_each(&rt, 1, |words| answer(&rt, &kept, words))
+    input::answer_each(&rt, 1, |words| {
+        answer(&rt, &kept, input::argument(words, 0))
+    })
 }

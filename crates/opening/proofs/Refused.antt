@@ -10,9 +10,9 @@ use Rattle.refusals.specs.Kinds.{refusal_of}
 use Rattle.refusals.proofs.Numbers.{kind_refused}
 
 module _ (P : ℕ → Type 0) (over : (n : ℕ) → P (suc n)) where
-  over_zero : (n : ℕ) → eqb n 0 ≡ false → P n
-  over_zero zero f = clash refl f
-  over_zero (suc n) f = over n
+  of_positive : (n : ℕ) → eqb n 0 ≡ false → P n
+  of_positive zero f = clash refl f
+  of_positive (suc n) f = over n
 
   pub of_refused : (k : Kind) (w : Refusal) → refusal_of k ≡ w → P w.number
-  of_refused k w e = over_zero w.number (kind_refused k w e)
+  of_refused k w e = of_positive w.number (kind_refused k w e)

@@ -15,19 +15,21 @@ use Rattle.opening.proofs.Room.{room_enough}
 use Rattle.oneplan.specs.Plan.{RowsSays}
 use Rattle.oneplan.proofs.Promise.{ChoiceListed, choice_listed}
 use Rattle.planrows.specs.declared.PlannedRows.{PlannedRows}
+use Rattle.planrows.proofs.Rows.{Says}
 
 module _ (bs a x : List ℕ) where
-  abbrev RowsReply : Result PlannedRows Kind → Type 0
-  RowsReply r = RowsSays bs (answered r) (figure (λ (p : PlannedRows). p.chosen) r) (figure (λ (p : PlannedRows). p.total) r) a x
+  module _ (size : length a ≡ 256) where
+    rows_answer : (r : Result PlannedRows Kind) → Says bs a r x → answered r ≡ hall_refusal bs
+    unfolding RowsSays
+    rows_answer r says = says.0 ∙ room_enough 256 (length a) (hall_refusal bs) (omega (arith, size))
 
-  pub rows_refused : (k : Kind) → length a ≡ 256 → RowsReply (Err k) → refusal_of k ≡ hall_refusal bs
-  unfolding RowsSays answered
-  rows_refused k size says = says.0 ∙ room_enough 256 (length a) (hall_refusal bs) (omega (arith, size))
+    pub rows_refused : (k : Kind) → Says bs a (Err k) x → refusal_of k ≡ hall_refusal bs
+    unfolding answered
+    rows_refused k says = rows_answer (Err k) says
 
-  pub rows_unrefused : (p : PlannedRows) → length a ≡ 256 → RowsReply (Ok p) → eqb (hall_refusal bs).number 0 ≡ true
-  unfolding RowsSays
-  rows_unrefused p size says = answer_fine p (hall_refusal bs) (says.0 ∙ room_enough 256 (length a) (hall_refusal bs) (omega (arith, size)))
+    pub rows_unrefused : (p : PlannedRows) → Says bs a (Ok p) x → eqb (hall_refusal bs).number 0 ≡ true
+    rows_unrefused p says = answer_fine p (hall_refusal bs) (rows_answer (Ok p) says)
 
-  pub rows_fine : {p : PlannedRows} → RowsReply (Ok p) → ChoiceListed (hall_in bs) p.chosen p.total x
+  pub rows_fine : {p : PlannedRows} → Says bs a (Ok p) x → ChoiceListed (hall_in bs) p.chosen p.total x
   unfolding RowsSays answered figure refusal
   rows_fine {p} says = choice_listed (hall_in bs) p.chosen p.total a x says.1

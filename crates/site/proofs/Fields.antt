@@ -7,10 +7,11 @@ use borrow.Rule.Slice.PartMut.{put_mid}
 use lib.ListN.{length, get_or, set, take, drop, replicate}
 use Rattle.std.proofs.lemmas.List.{get_or-append-add, get_or_append_left, length-append}
 use Rattle.stock.specs.Site.{Site, site, admitted}
-use Rattle.stock.specs.Places.{part, site_in, places, lengths}
-use Rattle.stock.proofs.Places.{part_length, part_slice, part_behind, part_none, plans_length, plan_at, plans_at, lengths_set, rows_none, rows_put}
+use Rattle.stock.specs.Places.{part, site_in, places}
+use Rattle.stock.proofs.Places.{part_length, part_slice, part_behind, part_none, plans_length, plan_at, plans_at}
 use Rattle.site.specs.declared.Site as declared
 use Rattle.site.specs.Site.{numbers, site_of, Holds}
+use Rattle.site.proofs.Put.{lengths_set, rows_none, rows_put}
 
 module _ (s : declared.Site) where
   pub stock_is : (site_of s).stock ≡ s.stock
@@ -51,7 +52,7 @@ unfolding numbers places
 holds_numbers s t h = let stock = h.stock in let left = h.left in let halls = h.halls in let ls = h.lengths in let rs = h.rows in cc
 
 pub started_holds : (k : ℕ) → Holds (record { stock = k; left = k; halls = 0; lengths = replicate 8 0; rows = replicate 2048 0 }) (site k k [])
-unfolding site lengths
+unfolding site
 started_holds k = record { stock = refl; left = refl; halls = refl; lengths = sym (part_none 0 8); rows = sym (rows_none 8) }
 
 -- one plan more, place by place

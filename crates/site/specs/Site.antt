@@ -1,7 +1,7 @@
 -- The site that a struct stands for. Assumes nothing: these are definitions.
-use Rattle.std.specs.Prelude.{◌≡◌, List, ◌∷◌, ◌++◌, ℕ, length}
+use Rattle.std.specs.Prelude.{◌≡◌, List, ◌∷◌, ◌++◌, map, ℕ, length}
 use Rattle.stock.specs.Site.{Site}
-use Rattle.stock.specs.Places.{part, site_in, lengths, rows_of}
+use Rattle.stock.specs.Places.{part, site_in, rows_of}
 use Rattle.site.specs.declared.Site as declared
 
 -- the struct's 2,059 numbers
@@ -17,5 +17,5 @@ pub record Holds (s : declared.Site) (t : Site) : Type 0 where
   pub stock : s.stock ≡ t.stock
   pub left : s.left ≡ t.left
   pub halls : s.halls ≡ length t.plans
-  pub lengths : s.lengths ≡ part (lengths t.plans) 0 8
+  pub lengths : s.lengths ≡ part (map length t.plans) 0 8
   pub rows : s.rows ≡ rows_of 8 t.plans

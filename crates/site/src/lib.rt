@@ -1,7 +1,7 @@
 // A site by value: its stock, the kits left, and the plans of up to 8 halls in two arrays. Any numbers may stand in it; `is_sound` tests them.
 #![tactic(auto)]
 
-ghost use Rattle.std.specs.Prelude.{◌≡◌, true, cond, ℕ, ◌≤◌, ◌<◌, length, get_or, [], Some, None};
+ghost use Rattle.std.specs.Prelude.{◌≡◌, true, cond, ◌≤◌, ◌<◌, length, get_or, [], Some, None};
 ghost use Rattle.hall.specs.Hall.{ascends_from};
 ghost use Rattle.stock.specs.Site.{site, sound, all_plans, opened_rows, admitted};
 ghost use Rattle.stock.specs.Site as stock;

@@ -5,7 +5,8 @@ use mathlib.Core.List.{List, [], ◌∷◌}
 use Prim.Native.Nat.{ℕ, ◌≤◌, ◌<◌}
 use native.Mathlib.Omega.{arith}
 use lib.Dec.{eqb, leb, ltb}
-use lib.ListN.{length, length-append}
+use lib.ListN.{length}
+use Rattle.std.proofs.lemmas.List.{length-append}
 use borrow.Author.Tests.{eqb-true, eq-eqb, leb-true, leb-false, ltb-false}
 use Rattle.laws.proofs.Booleans.{by_bool, clash, cond_true, cond_false}
 use Rattle.hall.specs.Hall.{count, ascends_from}
@@ -52,7 +53,7 @@ pub record Unrefused (s : Site) (bs c : List ℕ) : Type 0 where
   pub kits : length c ≤ s.left
 
 module _ (s : Site) (bs : List ℕ) where
-  pub unrefused_says : (c : List ℕ) → (admit_refusal s bs c).number ≡ 0 → Unrefused s bs c
+  unrefused_says : (c : List ℕ) → (admit_refusal s bs c).number ≡ 0 → Unrefused s bs c
   unfolding admit_refusal site_refusal
   unrefused_says c z =
       let last = cond (leb 8 (length s.plans)) (refusal 13 0) (cond (ltb s.left (length c)) (refusal 14 0) (refusal 0 0)) in
@@ -72,12 +73,12 @@ module _ (s : Site) (bs : List ℕ) where
   refused_alike c d e = rw e refl
 
 -- the plan of a file that is fine ascends from 1 to at most 256, whatever the number of its rows
-pub plan_ascends : (bs c : List ℕ) → (hall_refusal bs).number ≡ 0 → First (hall_in bs) c → ascends_from 1 256 c ≡ true
+plan_ascends : (bs c : List ℕ) → (hall_refusal bs).number ≡ 0 → First (hall_in bs) c → ascends_from 1 256 c ≡ true
 plan_ascends bs c z first =
     ascends_wider 1 (count (hall_in bs)) 256 c (other_sound bs (λ a b. omega arith)).rows_few (choice_ascends (hall_in bs) c first.choice)
 
 -- an admitted plan leaves a sound site sound
-pub admitted_sound : (s : Site) (bs c : List ℕ) → Unrefused s bs c → First (hall_in bs) c → sound (admitted s c) ≡ true
+admitted_sound : (s : Site) (bs c : List ℕ) → Unrefused s bs c → First (hall_in bs) c → sound (admitted s c) ≡ true
 unfolding admitted site opened_rows
 admitted_sound s bs c u first =
     let p = sound_parts s u.site_sound in

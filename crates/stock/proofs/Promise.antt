@@ -1,5 +1,5 @@
 -- The statements of specs/Promise.antt, proved: a history keeps a site sound, a file has one plan, and a sound site is read back from its places. Assumes nothing.
-use mathlib.Core.Path.{◌≡◌, refl, sym, ap, ◌∙◌}
+use mathlib.Core.Path.{◌≡◌, refl, sym, ap, ◌∙◌, subst}
 use mathlib.Core.Bool.{true, cond}
 use mathlib.Core.List.{List, [], ◌∷◌, ◌++◌}
 use Prim.Native.Nat.{ℕ}
@@ -8,7 +8,7 @@ use Rattle.laws.proofs.Booleans.{by_bool, cond_true, cond_false}
 use Rattle.hall.specs.File.{Refusal, refusal, hall_in}
 use Rattle.order.proofs.First.{first_alone}
 use Rattle.stock.specs.Site.{Site, site, sound, started, admitted, AdmitSays, History, begun, let_in}
-use Rattle.stock.specs.Places.{site_in, places, StartLeaves, AdmitLeaves, first_left, next_left}
+use Rattle.stock.specs.Places.{site_in, places, StartLeaves, AdmitLeaves, PlacesHistory, places_begun, places_let_in}
 use Rattle.stock.specs.Promise.{StockKept, PlanAlone, PlacesStand, HistoryHeld, DamagedRefused, AdmitAlone}
 use Rattle.stock.proofs.Answered.{damaged_answer}
 use Rattle.stock.proofs.Admission.{started_sound, admitted_plan, refused_stays, admission_sound, admission_alone}
@@ -51,12 +51,19 @@ held_next k s bs ys f past (t, says, left) =
           (λ e. left ∙ cond_false (eqb f.number 0) (places t) (places s) e ∙ ap places (sym (refused_stays s t bs f here e))),
     )
 
-pub history_held : HistoryHeld
-unfolding HistoryHeld StartLeaves
-history_held k _ (first_left xs f left) = (started k, begun, left.1)
-history_held k _ (next_left xs ys bs f past left) =
-    let w = history_held k xs past in
+held : (k : ℕ) (xs : List ℕ) → PlacesHistory k xs → (s : Site) × History k s × (xs ≡ places s)
+unfolding StartLeaves
+held k _ (places_begun xs f left) = (started k, begun, left.1)
+held k _ (places_let_in xs ys bs f past left) =
+    let w = held k xs past in
     held_next k w.0 bs ys f w.1 (rw w.2 at left)
+
+pub history_held : HistoryHeld
+unfolding HistoryHeld
+history_held k xs past =
+    let (s, led, are) = held k xs past in
+    let same : s ≡ site_in xs = sym (ap site_in are ∙ read_back s (history_sound k s led).1) in
+    (subst (History k) same led, are ∙ ap places same)
 
 pub damaged_refused : DamagedRefused
 unfolding DamagedRefused AdmitLeaves AdmitSays refusal

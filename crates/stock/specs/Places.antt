@@ -1,5 +1,5 @@
 -- A site as 2,059 numbers: stock, kits left, how many halls, 8 lengths, and 8 times 256 rows. Assumes nothing: these are definitions.
-use Rattle.std.specs.Prelude.{◌≡◌, cond, List, [], ◌∷◌, ◌++◌, ℕ, zero, suc, ◌+◌, ◌*◌, eqb, length, get_or}
+use Rattle.std.specs.Prelude.{◌≡◌, cond, List, [], ◌∷◌, ◌++◌, map, ℕ, zero, suc, ◌+◌, ◌*◌, eqb, length, get_or}
 use Rattle.hall.specs.File.{Refusal}
 use Rattle.stock.specs.Site.{Site, site, start_refusal, started, AdmitSays}
 
@@ -17,11 +17,6 @@ plans_in (suc l) k xs = part xs (11 + 256 * k) (get_or xs (3 + k) 0) ∷ plans_i
 unfoldable pub site_in : List ℕ → Site
 site_in xs = site (get_or xs 0 0) (get_or xs 1 0) (plans_in (get_or xs 2 0) 0 xs)
 
--- how long each plan is
-unfoldable pub lengths : List (List ℕ) → List ℕ
-lengths [] = []
-lengths (p ∷ ps) = length p ∷ lengths ps
-
 -- 256 places for each of the next `left` halls: the rows of its plan, then 0
 unfoldable pub rows_of : (left : ℕ) → List (List ℕ) → List ℕ
 rows_of zero ps = []
@@ -30,7 +25,7 @@ rows_of (suc l) (p ∷ ps) = part p 0 256 ++ rows_of l ps
 
 -- a site's 2,059 numbers, 0 in places that it does not use
 unfoldable pub places : Site → List ℕ
-places s = s.stock ∷ s.left ∷ length s.plans ∷ (part (lengths s.plans) 0 8 ++ rows_of 8 s.plans)
+places s = s.stock ∷ s.left ∷ length s.plans ∷ (part (map length s.plans) 0 8 ++ rows_of 8 s.plans)
 
 -- THE PLACES AFTER A START
 unfoldable pub StartLeaves : (stock : ℕ) → (answered : Refusal) → (after : List ℕ) → Type 0
@@ -42,5 +37,5 @@ AdmitLeaves xs bs f ys = (t : Site) × AdmitSays (site_in xs) bs f t × (ys ≡ 
 
 -- EVERY HISTORY OF PLACES from a start with k kits, as a caller holds them: each call is handed what the one before has left
 pub data PlacesHistory (k : ℕ) : List ℕ → Type 0 where
-  first_left : (xs : List ℕ) (f : Refusal) → StartLeaves k f xs → PlacesHistory k xs
-  next_left : (xs ys bs : List ℕ) (f : Refusal) → PlacesHistory k xs → AdmitLeaves xs bs f ys → PlacesHistory k ys
+  places_begun : (xs : List ℕ) (f : Refusal) → StartLeaves k f xs → PlacesHistory k xs
+  places_let_in : (xs ys bs : List ℕ) (f : Refusal) → PlacesHistory k xs → AdmitLeaves xs bs f ys → PlacesHistory k ys

@@ -21,9 +21,9 @@ PlanAlone =
 unfoldable pub PlacesStand : Type 0
 PlacesStand = (s : Site) → sound s ≡ true → (site_in (places s) ≡ s) × (length (places s) ≡ 2059)
 
--- what a caller holds after any calls are the places of a site to which such calls lead
+-- what a caller holds after any calls are the places of the site that they stand for, to which such calls lead
 unfoldable pub HistoryHeld : Type 0
-HistoryHeld = (k : ℕ) (xs : List ℕ) → PlacesHistory k xs → (s : Site) × History k s × (xs ≡ places s)
+HistoryHeld = (k : ℕ) (xs : List ℕ) → PlacesHistory k xs → History k (site_in xs) × (xs ≡ places (site_in xs))
 
 -- numbers that stand for no sound site are refused with 12 and stay as they are, whatever the file
 unfoldable pub DamagedRefused : Type 0

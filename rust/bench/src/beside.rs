@@ -33,7 +33,7 @@ const TOTALS_BESIDE_ROWS: Beside = Beside {
 
 const ADMISSION_BESIDE_ROWS: Beside = Beside {
     heading: "An admission beside a plan",
-    what: "Of a full hall to a site that has no hall, in turns, and a plan by the rows' call alone.",
+    what: "Of a full hall to a site of 7 halls that have 256 kits each, in turns, and a plan by the rows' call alone.",
     names: ["plan", "admission"],
     calls: [ROWS, ADMISSION],
     often: |_| 1,

@@ -28,6 +28,21 @@ impl Case {
     }
 }
 
+/// A site of 2,048 kits, of which 7 halls have 256 each.
+const FILLED: [u32; SITE_PLACES] = filled_site();
+
+const fn filled_site() -> [u32; SITE_PLACES] {
+    let mut site = [0; SITE_PLACES];
+    [site[0], site[1], site[2]] = [2_048, 256, 7];
+    let mut place = 0;
+    while place < 7 * 256 {
+        site[3 + place / 256] = 256;
+        site[11 + place] = place as u32 % 256 + 1;
+        place += 1;
+    }
+    site
+}
+
 #[derive(Clone, Copy)]
 pub struct Call {
     pub name: &'static str,
@@ -108,11 +123,10 @@ pub const TOTALS: Call = Call {
 
 pub const ADMISSION: Call = Call {
     name: "Admission",
-    what: "The hall is put on a site of 2,048 kits that has no hall.",
+    what: "The hall is put on a site of 2,048 kits, behind 7 halls that have 256 each.",
     counts: None,
     run: |planner, case, _| {
-        let mut site = [0; SITE_PLACES];
-        site[..2].fill(2_048);
+        let mut site = FILLED;
         black_box((planner.admit)(black_box(&case.file), &mut site));
     },
 };

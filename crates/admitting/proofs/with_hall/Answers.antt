@@ -26,7 +26,7 @@ pub returns-in_err-plan : goal.returns-in_err-plan
 returns-in_err-plan c =
     let passed : c.from_residual.result ≡ Err c.in_err-plan.field-0.0 = search (rules, c.from_residual.ensures) in
     let good : sound (site_of c.args.site.now) ≡ true = search rules in
-    rw passed (admits_refused c.args.site.now c.args.file.now good c.in_err-plan.field-0.0 (rows_refused c.args.file.now _ _ _ refl c.in_err-plan.ensures))
+    rw passed (admits_refused c.args.site.now c.args.file.now good c.in_err-plan.field-0.0 (rows_refused c.args.file.now _ _ refl _ c.in_err-plan.ensures))
 
 -- where the plan is listed
 module _ (c : In_ok-plan) where
@@ -34,7 +34,7 @@ module _ (c : In_ok-plan) where
   good = search rules
 
   fine : eqb (hall_refusal c.args.file.now).number 0 ≡ true
-  fine = rows_unrefused c.args.file.now _ _ _ refl c.in_ok-plan.ensures
+  fine = rows_unrefused c.args.file.now _ _ refl _ c.in_ok-plan.ensures
 
   listed : ChoiceListed (hall_in c.args.file.now) c.in_ok-plan.plan.chosen c.in_ok-plan.plan.total c.plan_rows.new.rows
   listed = rows_fine c.args.file.now _ _ c.in_ok-plan.ensures

@@ -25,7 +25,7 @@ module _ (c : In_ok-planned) where
 pub returns-in_err-chosen : goal.returns-in_err-chosen
 returns-in_err-chosen c =
     let passed : c.from_residual.result ≡ Err c.in_err-chosen.field-0.0 = search (rules, c.from_residual.ensures) in
-    list_refused c.args.file.now passed (rows_refused c.args.file.now _ _ _ refl c.in_err-chosen.ensures)
+    list_refused c.args.file.now passed (rows_refused c.args.file.now _ _ refl _ c.in_err-chosen.ensures)
 
 pub returns-in_err-planned : goal.returns-in_err-planned
 returns-in_err-planned c =
