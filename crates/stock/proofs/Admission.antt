@@ -8,6 +8,8 @@ use lib.Dec.{eqb, leb, ltb}
 use lib.ListN.{length}
 use Rattle.std.proofs.lemmas.List.{length-append}
 use borrow.Author.Tests.{eqb-true, eq-eqb, leb-true, leb-false, ltb-false}
+use Rattle.std.proofs.lemmas.List.Sums.{sum_by_push}
+use Rattle.laws.specs.Lists.{all_in}
 use Rattle.laws.proofs.Booleans.{by_bool, clash, cond_true, cond_false}
 use Rattle.hall.specs.Hall.{count, ascends_from}
 use Rattle.hall.specs.File.{Refusal, refusal, or_else, hall_in, hall_refusal}
@@ -16,11 +18,11 @@ use Rattle.dicuts.proofs.Choices.{choice_ascends, ascends_wider}
 use Rattle.joining.proofs.Sound.{other_sound}
 use Rattle.order.proofs.First.{first_alone}
 use Rattle.stock.specs.Site.{Site, site, opened_rows, all_plans, sound, site_refusal, started, admit_refusal, admitted, AdmitSays}
-use Rattle.stock.proofs.Plans.{sound_parts, parts_sound, all_plans_more, opened_append}
+use Rattle.stock.proofs.Plans.{sound_parts, parts_sound, all_plans_more}
 
 -- a site that starts is sound
 pub started_sound : (k : ℕ) → sound (started k) ≡ true
-unfolding started site all_plans opened_rows
+unfolding started site all_plans all_in opened_rows
 started_sound k =
     by_bool (leb k 2048)
     (λ e. rw e (parts_sound (site k k []) record { stock_few = leb-true k 2048 e; plans_few = omega arith; plans_good = refl; kept = omega arith }))
@@ -86,7 +88,7 @@ admitted_sound s bs c u first =
       stock_few = p.stock_few;
       plans_few = omega (arith, u.room, length-append s.plans (c ∷ []));
       plans_good = all_plans_more s.plans c p.plans_good (plan_ascends bs c u.file_fine first);
-      kept = omega (arith, p.kept, u.kits, opened_append s.plans (c ∷ []));
+      kept = omega (arith, p.kept, u.kits, sum_by_push length s.plans c);
     }
 
 module _ (s t : Site) (bs : List ℕ) (f : Refusal) (says : AdmitSays s bs f t) where

@@ -1,5 +1,5 @@
 -- The plans of a site one by one: how long each is, how many rows the first of them open, and what a sound site keeps. Assumes nothing.
-use mathlib.Core.Path.{◌≡◌, refl, ◌∙◌}
+use mathlib.Core.Path.{◌≡◌, refl}
 use mathlib.Core.Bool.{Bool, true, false, ◌&&◌}
 use mathlib.Core.List.{List, [], ◌∷◌, ◌++◌}
 use Prim.Native.Nat.{ℕ, zero, suc, ◌+◌, ◌≤◌, ◌<◌}
@@ -9,6 +9,8 @@ use lib.Dec.{leb, eqb}
 use lib.ListN.{length, get_or, take}
 use borrow.Author.Tests.{eqb-true, eq-eqb, leb-true, le-leb}
 use Rattle.std.proofs.Math.Seq.{take-suc}
+use Rattle.std.proofs.lemmas.List.Sums.{sum_by_push, sum_by-take-le}
+use Rattle.laws.specs.Lists.{all_in}
 use Rattle.laws.proofs.Booleans.{not_true_false, and_l, and_r, and_i}
 use Rattle.hall.specs.Hall.{ascends_from}
 use Rattle.dicuts.proofs.Choices.{ascends_length}
@@ -21,23 +23,18 @@ pub long_no_plan : (p : List ℕ) → 256 < length p → ascends_from 1 256 p �
 long_no_plan p long = not_true_false (ascends_from 1 256 p) (λ e. omega (arith, plan_short p e))
 
 pub plans_each : (ps : List (List ℕ)) (k : ℕ) → all_plans ps ≡ true → k < length ps → ascends_from 1 256 (get_or ps k []) ≡ true
-unfolding all_plans
+unfolding all_plans all_in
 plans_each [] k e h = absurd (omega arith)
 plans_each (p ∷ ps) zero e h = and_l (ascends_from 1 256 p) (all_plans ps) e
 plans_each (p ∷ ps) (suc k) e h = plans_each ps k (and_r (ascends_from 1 256 p) (all_plans ps) e) (omega arith)
 
 -- a plan more at the end
 pub all_plans_more : (ps : List (List ℕ)) (c : List ℕ) → all_plans ps ≡ true → ascends_from 1 256 c ≡ true → all_plans (ps ++ c ∷ []) ≡ true
-unfolding all_plans
+unfolding all_plans all_in
 all_plans_more [] c t e = and_i (ascends_from 1 256 c) true e refl
 all_plans_more (p ∷ ps) c t e =
     and_i (ascends_from 1 256 p) (all_plans (ps ++ c ∷ [])) (and_l (ascends_from 1 256 p) (all_plans ps) t)
     (all_plans_more ps c (and_r (ascends_from 1 256 p) (all_plans ps) t) e)
-
-pub opened_append : (ps qs : List (List ℕ)) → opened_rows (ps ++ qs) ≡ opened_rows ps + opened_rows qs
-unfolding opened_rows
-opened_append [] qs = omega arith
-opened_append (p ∷ ps) qs = omega (arith, opened_append ps qs)
 
 -- plan after plan: all of the first are plans, and so is the next one
 pub all_next : (ps : List (List ℕ)) (k : ℕ) → k < length ps → all_plans (take k ps) ≡ true → ascends_from 1 256 (get_or ps k []) ≡ true → all_plans (take (k + 1) ps) ≡ true
@@ -45,14 +42,12 @@ all_next ps k h t e = rw (add-one, take-suc ps k [] h) (all_plans_more (take k p
 
 pub opened_more : (ps : List (List ℕ)) (k : ℕ) → k < length ps → opened_rows (take (k + 1) ps) ≡ opened_rows (take k ps) + length (get_or ps k [])
 unfolding opened_rows
-opened_more ps k h = rw (add-one, take-suc ps k [] h) (opened_append (take k ps) (get_or ps k [] ∷ []) ∙ omega arith)
+opened_more ps k h = rw (add-one, take-suc ps k [] h) (sum_by_push length (take k ps) (get_or ps k []))
 
 -- the first plans and the next one open no more rows than all of them
 pub opened_next : (ps : List (List ℕ)) (k : ℕ) → k < length ps → opened_rows (take k ps) + length (get_or ps k []) ≤ opened_rows ps
 unfolding opened_rows
-opened_next [] k h = absurd (omega arith)
-opened_next (p ∷ ps) zero h = omega arith
-opened_next (p ∷ ps) (suc k) h = omega (arith, opened_next ps k (omega arith))
+opened_next ps k h = omega (arith, opened_more ps k h, sum_by-take-le length ps (k + 1))
 
 -- what a sound site keeps
 pub record SoundSite (s : Site) : Type 0 where

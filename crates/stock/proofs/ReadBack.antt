@@ -7,7 +7,7 @@ use native.Mathlib.Omega.{arith}
 use lib.ListN.{length, get_or, drop, replicate}
 use Rattle.std.proofs.Math.Seq.{take-append_seam}
 use Rattle.std.proofs.lemmas.List.{append_assoc, length-append, length-map}
-use Rattle.laws.specs.Lists.{in_front}
+use Rattle.laws.specs.Lists.{all_in, in_front}
 use Rattle.laws.proofs.Booleans.{and_l, and_r}
 use Rattle.hall.specs.Hall.{ascends_from}
 use Rattle.stock.specs.Site.{Site, site, all_plans, sound}
@@ -42,7 +42,7 @@ part_next xs a n = refl
 plans_back :
     (xs : List ℕ) (l k : ℕ) (front : List ℕ) (ps : List (List ℕ)) → xs ≡ front ++ rows_of l ps → length front ≡ 11 + 256 * k → length ps ≤ l → all_plans ps ≡ true
     → part xs (3 + k) (length ps) ≡ map length ps → plans_in (length ps) k xs ≡ ps
-unfolding plans_in rows_of all_plans
+unfolding plans_in rows_of all_plans all_in
 plans_back xs l k front [] is size fits good counts = refl
 plans_back xs zero k front (p ∷ ps) is size fits good counts = absurd (omega arith)
 plans_back xs (suc l) k front (p ∷ ps) is size fits good counts =

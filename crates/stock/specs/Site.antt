@@ -1,5 +1,6 @@
 -- A site: several halls on one stock of kits; how it starts, and what it is once a hall is admitted. Assumes nothing: these are definitions.
-use Rattle.std.specs.Prelude.{◌≡◌, Bool, true, ◌&&◌, cond, List, [], ◌∷◌, ◌++◌, ℕ, ◌+◌, ◌-◌, ltb, leb, eqb, length}
+use Rattle.std.specs.Prelude.{◌≡◌, Bool, true, ◌&&◌, cond, List, [], ◌∷◌, ◌++◌, ℕ, ◌+◌, ◌-◌, ltb, leb, eqb, length, sum_by}
+use Rattle.laws.specs.Lists.{all_in}
 use Rattle.hall.specs.Hall.{ascends_from}
 use Rattle.hall.specs.File.{Refusal, refusal, or_else, hall_in, hall_refusal}
 use Rattle.hall.specs.Plan.{First}
@@ -16,13 +17,11 @@ site s l ps = record { stock = s; left = l; plans = ps }
 
 -- how many rows the listed plans open
 unfoldable pub opened_rows : List (List ℕ) → ℕ
-opened_rows [] = 0
-opened_rows (p ∷ ps) = length p + opened_rows ps
+opened_rows ps = sum_by length ps
 
 -- each is a strictly ascending list of numbers from 1 to 256
 unfoldable pub all_plans : List (List ℕ) → Bool
-all_plans [] = true
-all_plans (p ∷ ps) = ascends_from 1 256 p && all_plans ps
+all_plans ps = all_in (ascends_from 1 256) ps
 
 -- SOUND: a stock of at most 2,048 and at most 8 plans, and the kits left are the stock less the opened rows
 unfoldable pub sound : Site → Bool

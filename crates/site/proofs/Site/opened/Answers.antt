@@ -7,6 +7,7 @@ use native.Mathlib.Omega.{arith}
 use Rattle.std.proofs.Common.{rules}
 use lib.ListN.{length, get_or, take}
 use Rattle.std.proofs.lemmas.List.{take_all}
+use Rattle.laws.specs.Lists.{all_in}
 use Rattle.laws.proofs.Booleans.{clash, not_true_false}
 use Rattle.hall.specs.Hall.{ascends_from}
 use Rattle.stock.specs.Site.{all_plans, opened_rows}
@@ -27,7 +28,7 @@ module _ (c : After-has_plan) where
   size = plan_length c.args.self.now (search rules) c.loop-k.k (search rules) c.requires
 
 pub loop-k-init : goal.loop-k-init
-unfolding all_plans opened_rows
+unfolding all_plans all_in opened_rows
 loop-k-init c = record { plans = refl; count = refl; low = omega arith }
 
 pub returns-then-not-has_plan : goal.returns-then-not-has_plan
