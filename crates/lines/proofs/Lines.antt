@@ -22,7 +22,7 @@ set_short zero j s h = omega arith
 set_short (suc k) j s h =
     let rest : length (set_text k (suc j) s) ≤ 3 * k = set_short k (suc j) s (omega arith) in
     by_bool (holds s j)
-    (λ e. rw e (simp length-append (omega (arith, decimal-length 2 j (omega arith) (omega arith) (omega arith)))))
+    (λ e. rw e (simp length-append (omega (arith, decimal-length 1 j (omega arith)))))
     (λ e. rw e (omega arith))
 
 -- a cut's line has at most 203 bytes

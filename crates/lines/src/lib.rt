@@ -35,6 +35,13 @@ impl<const N: usize> Text<N> {
         }
     }
 
+    // The empty text, in place.
+    pub fn clear(&mut self)
+        ensures { self.new ≡ [] }
+    {
+        self.bytes.clear();
+    }
+
     pub fn as_bytes(&self) -> &[u8]
         ensures { result.now ≡ self.now }
     {

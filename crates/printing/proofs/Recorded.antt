@@ -1,4 +1,4 @@
--- The rows of the hall of a record stand in its columns, and the hall of the record of a hall is the hall. Assumes nothing.
+-- The rows of a hall that columns draw stand in them, and the hall of the record of a hall is the hall. Assumes nothing.
 use mathlib.Core.Path.{◌≡◌, refl, ap, ap₂, ◌∙◌}
 use mathlib.Core.Bool.{Bool, true, false}
 use mathlib.Core.List.{List}
@@ -14,7 +14,8 @@ use Rattle.hallfile.proofs.Columns.{column-at}
 use Rattle.choice.proofs.Ascent.{ascends_at}
 use Rattle.lines.specs.Lines.{four_line}
 use Rattle.printing.specs.Printed.{row_line}
-use Rattle.printing.specs.Recorded.{row_in_columns, rows_from, hall_of}
+use Rattle.printing.specs.declared.Drawn.{Drawn}
+use Rattle.printing.specs.Recorded.{row_in_columns, rows_from, hall_of, hall_drawn}
 
 module _ (t h p : List ℕ) (x : List Bool) where
   rows_length : (i k : ℕ) → length (rows_from t h p x i k) ≡ k
@@ -28,37 +29,42 @@ module _ (t h p : List ℕ) (x : List Bool) where
   rows_at d i (suc k) zero l = let e : i ≡ i + 0 = omega arith in ap (row_in_columns t h p x) e
   rows_at d i (suc k) (suc j) l = let e : suc i + j ≡ i + suc j = omega arith in rows_at d (suc i) k j (omega arith) ∙ ap (row_in_columns t h p x) e
 
-module _ (r : HallRecord) where
-  -- the row at a place of the record
-  abbrev place_row : ℕ → Row
-  place_row = row_in_columns r.lanes.tails r.lanes.heads r.prices r.fixed
+-- the rows of columns from the first on
+module _ (t h p : List ℕ) (x : List Bool) (n m : ℕ) where
+  drawn_count : count (hall n (rows_from t h p x 0 m)) ≡ m
+  unfolding hall count
+  drawn_count = rows_length t h p x 0 m
 
-  pub hall-count : count (hall_of r) ≡ r.lanes.count
-  unfolding hall_of hall count
-  hall-count = rows_length r.lanes.tails r.lanes.heads r.prices r.fixed 0 r.lanes.count
+  drawn_place : (k : ℕ) → k < m → get_or (hall n (rows_from t h p x 0 m)).rows k (row_of 0 0 0) ≡ row_in_columns t h p x k
+  unfolding hall
+  drawn_place k less =
+      let e : 0 + k ≡ k = omega arith in
+      rows_at t h p x (row_of 0 0 0) 0 m k less ∙ ap (row_in_columns t h p x) e
 
-  pub hall_junctions : (hall_of r).n ≡ r.lanes.n
-  unfolding hall_of hall
+module _ (d : Drawn) where
+  pub hall-count : count (hall_drawn d) ≡ d.count
+  unfolding hall_drawn
+  hall-count = drawn_count d.tails.now d.heads.now d.prices.now d.fixed.now d.n d.count
+
+  pub hall_junctions : (hall_drawn d).n ≡ d.n
+  unfolding hall_drawn hall
   hall_junctions = refl
 
-  hall_place : (k : ℕ) → k < r.lanes.count → get_or (hall_of r).rows k (row_of 0 0 0) ≡ place_row k
-  unfolding hall_of hall
-  hall_place k less =
-      let e : 0 + k ≡ k = omega arith in
-      rows_at r.lanes.tails r.lanes.heads r.prices r.fixed (row_of 0 0 0) 0 r.lanes.count k less ∙ ap place_row e
-
   -- the line of a row, from its columns
-  pub row_line_is : (i : ℕ) → 1 ≤ i → i ≤ r.lanes.count → row_line (hall_of r) i ≡ four_line i (get_or r.lanes.tails (i - 1) 0) (get_or r.lanes.heads (i - 1) 0) (get_or r.prices (i - 1) 0)
-  unfolding row_line row row_in_columns
-  row_line_is i low high = ap (λ (x : Row). four_line i x.from x.to x.price) (hall_place (i - 1) (omega arith))
+  pub row_line_is : (i : ℕ) → 1 ≤ i → i ≤ d.count → row_line (hall_drawn d) i ≡ four_line i (get_or d.tails.now (i - 1) 0) (get_or d.heads.now (i - 1) 0) (get_or d.prices.now (i - 1) 0)
+  unfolding hall_drawn row_line row row_in_columns
+  row_line_is i low high = ap (λ (x : Row). four_line i x.from x.to x.price) (drawn_place d.tails.now d.heads.now d.prices.now d.fixed.now d.n d.count (i - 1) (omega arith))
 
-  -- a choice of the hall has numbers of the record's rows
-  pub choice_at : (ns : List ℕ) (k : ℕ) → is_choice (hall_of r) ns ≡ true → k < length ns → (1 ≤ get_or ns k 0) × (get_or ns k 0 ≤ r.lanes.count)
-  choice_at ns k e l = let w = ascends_at 1 (count (hall_of r)) ns k (choice_ascends (hall_of r) ns e) l in (w.0, omega (arith, w.1, hall-count))
+  -- a choice of the hall has numbers of the columns' rows
+  pub choice_at : (ns : List ℕ) (k : ℕ) → is_choice (hall_drawn d) ns ≡ true → k < length ns → (1 ≤ get_or ns k 0) × (get_or ns k 0 ≤ d.count)
+  choice_at ns k e l = let w = ascends_at 1 (count (hall_drawn d)) ns k (choice_ascends (hall_drawn d) ns e) l in (w.0, omega (arith, w.1, hall-count))
 
 -- the hall of a record of a hall is the hall
 module _ (h : Hall) (r : HallRecord) (is : RecordOf h r) where
-  record_row : (k : ℕ) → k < r.lanes.count → place_row r k ≡ get_or h.rows k (row_of 0 0 0)
+  abbrev place_row : ℕ → Row
+  place_row = row_in_columns r.lanes.tails r.lanes.heads r.prices r.fixed
+
+  record_row : (k : ℕ) → k < r.lanes.count → place_row k ≡ get_or h.rows k (row_of 0 0 0)
   unfolding row_in_columns count
   record_row k l =
       let none = row_of 0 0 0 in
@@ -75,13 +81,21 @@ module _ (h : Hall) (r : HallRecord) (is : RecordOf h r) where
         column-at false (λ r. r.fixed) h.rows k none less small,
       ) refl
 
+  record-count : count (hall_of r) ≡ r.lanes.count
+  unfolding hall_of
+  record-count = drawn_count r.lanes.tails r.lanes.heads r.prices r.fixed r.lanes.n r.lanes.count
+
+  record_place : (k : ℕ) → k < r.lanes.count → get_or (hall_of r).rows k (row_of 0 0 0) ≡ place_row k
+  unfolding hall_of
+  record_place = drawn_place r.lanes.tails r.lanes.heads r.prices r.fixed r.lanes.n r.lanes.count
+
   record_rows : (hall_of r).rows ≡ h.rows
   unfolding count
   record_rows =
-      ext_get_or (row_of 0 0 0) (hall_of r).rows h.rows (hall-count r ∙ is.rows)
+      ext_get_or (row_of 0 0 0) (hall_of r).rows h.rows (record-count ∙ is.rows)
       (λ k l.
-      let less : k < r.lanes.count = omega (arith, hall-count r) in
-      hall_place r k less ∙ record_row k less)
+      let less : k < r.lanes.count = omega (arith, record-count) in
+      record_place k less ∙ record_row k less)
 
   pub hall_of_record : hall_of r ≡ h
   unfolding hall_of hall

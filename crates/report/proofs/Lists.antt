@@ -7,7 +7,7 @@ use lib.IntN.{ℤ}
 use lib.ListN.{length, take, length-map}
 use Rattle.std.specs.Prelude.{Result, Ok, Err}
 use Rattle.laws.proofs.Lists.{front_fits, front_are}
-use Rattle.hall.specs.Hall.{Hall}
+use Rattle.hall.specs.Hall.{Hall, count}
 use Rattle.hall.specs.File.{Refusal, refusal, hall_in, hall_refusal}
 use Rattle.hall.specs.Plan.{First, levels, most_cuts}
 use Rattle.hallfile.specs.declared.record.HallRecord.{HallRecord}
@@ -26,8 +26,9 @@ use Rattle.oneplan.specs.Plan.{CutsSays}
 use Rattle.oneplan.proofs.Promise.{ChoiceListed, CutsListed, cuts_listed}
 use Rattle.planpairs.specs.declared.PlannedCuts.{PlannedCuts}
 use Rattle.printing.specs.Printed.{printed_plan, printed_refusal}
-use Rattle.printing.specs.Recorded.{hall_of, Printable}
-use Rattle.printing.proofs.Recorded.{hall_of_record}
+use Rattle.printing.specs.declared.Drawn.{Drawn}
+use Rattle.printing.specs.Recorded.{hall_of, hall_drawn, Printable}
+use Rattle.printing.proofs.Recorded.{hall-count, hall_junctions, hall_of_record}
 use Rattle.report.specs.Report.{PlanPrinted, ReportAs, ReportSays, ListSays}
 
 module _ (bs : List ℕ) where
@@ -62,19 +63,27 @@ module _ {h : Hall} {c : List ℕ} {q l : ℕ} {y : List Cut} {d w : List ℤ} (
 
 -- what the two replies for one file leave can be printed, and what is printed is the plan
 module _ {h : Hall} {k t q l : ℕ} {x : List ℕ} {y : List Cut} {d w : List ℤ} {hall : HallRecord}
-    (r : ChoiceListed h k t x) (s : CutsListed lent h (take k x) q l y d w) (is : RecordOf h hall) where
-  same_hall : hall_of hall ≡ h
-  same_hall = hall_of_record h hall is
+    (r : ChoiceListed h k t x) (s : CutsListed lent h (take k x) q l y d w) (is : RecordOf h hall) (drawn : Drawn) (of : hall_drawn drawn ≡ hall_of hall) where
+  same_hall : hall_drawn drawn ≡ h
+  same_hall = of ∙ hall_of_record h hall is
 
-  pub printable : Printable hall (take k x) (take q y) (take l w)
+  same_junctions : drawn.n ≡ hall.lanes.n
+  same_junctions = sym (hall_junctions drawn) ∙ ap (λ (g : Hall). g.n) same_hall ∙ sym is.junctions
+
+  same_count : drawn.count ≡ hall.lanes.count
+  same_count = sym (hall-count drawn) ∙ ap count same_hall ∙ sym is.rows
+
+  pub printable : Printable drawn (take k x) (take q y) (take l w)
   unfolding most_cuts
   printable = record {
+    junctions = omega (arith, same_junctions, hall.lanes.ends.size);
+    few = omega (arith, same_count, hall.lanes.ends.few);
     choice = rw same_hall r.first.choice;
     cuts = omega (arith, ap length s.listed, length-map s.cuts lent, s.beside.few, is.junctions, hall.lanes.ends.size);
     leveled = omega (arith, ap length (levels_are s), levels-length s, is.junctions, hall.lanes.ends.size);
   }
 
-  pub printed : {text : List ℕ} → text ≡ printed_plan (hall_of hall) (take k x) t (cuts_of (take q y)) (take l w) → PlanPrinted h text
+  pub printed : {text : List ℕ} → text ≡ printed_plan (hall_drawn drawn) (take k x) t (cuts_of (take q y)) (take l w) → PlanPrinted h text
   unfolding PlanPrinted
   printed is_text = (take k x, s.cuts, r.first, s.beside, rw (same_hall, r.sum, cuts_are s, levels_are s) at is_text)
 
@@ -85,18 +94,18 @@ module _ (bs : List ℕ) where
   report_list f h text none printed = rw none printed
 
   -- the list is refused, or printed
-  pub list_refused : {r : Result (List ℕ) Kind} {k : Kind} → r ≡ Err k → refusal_of k ≡ hall_refusal bs → ListSays bs r
+  pub list_refused : {A : Type 0} {r : Result A Kind} {k : Kind} {text : List ℕ} → r ≡ Err k → refusal_of k ≡ hall_refusal bs → ListSays bs r text
   unfolding answered
-  list_refused {r} {k} e is = let s : ListSays bs (Err k) = record { refusal = is; list = tt } in rw e s
+  list_refused {A} {r} {k} {text} e is = let s : ListSays {A = A} bs (Err k) text = record { refusal = is; list = tt } in rw e s
 
-  pub report_planned : {r : Result (List ℕ) Kind} {text : List ℕ} → r ≡ Ok text → ListSays bs r → ReportSays bs text
+  pub report_planned : {A : Type 0} {r : Result A Kind} {a : A} {text : List ℕ} → r ≡ Ok a → ListSays bs r text → ReportSays bs text
   unfolding ReportSays refusal
-  report_planned {r} {text} e says =
-      let s : ListSays bs (Ok text) = rw e at says in
-      report_list (hall_refusal bs) (hall_in bs) text (ap (λ (f : Refusal). f.number) (answer_none text (hall_refusal bs) s.refusal)) s.list
+  report_planned {A} {r} {a} {text} e says =
+      let s : ListSays bs (Ok a) text = rw e at says in
+      report_list (hall_refusal bs) (hall_in bs) text (ap (λ (f : Refusal). f.number) (answer_none a (hall_refusal bs) s.refusal)) s.list
 
-  pub report_refused : {r : Result (List ℕ) Kind} {k : Kind} {text : List ℕ} → r ≡ Err k → ListSays bs r → text ≡ printed_refusal (refusal_of k) → ReportSays bs text
+  pub report_refused : {A : Type 0} {r : Result A Kind} {k : Kind} {before text : List ℕ} → r ≡ Err k → ListSays bs r before → text ≡ printed_refusal (refusal_of k) → ReportSays bs text
   unfolding ReportSays ReportAs answered
-  report_refused {r} {k} {text} e says is =
-      let s : ListSays bs (Err k) = rw e at says in
+  report_refused {A} {r} {k} {before} {text} e says is =
+      let s : ListSays {A = A} bs (Err k) before = rw e at says in
       of_refused (λ n. ReportAs n (hall_refusal bs) (hall_in bs) text) (λ n. is ∙ ap printed_refusal s.refusal) k (hall_refusal bs) s.refusal

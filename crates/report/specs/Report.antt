@@ -20,7 +20,7 @@ ReportAs (suc n) f h text = text ≡ printed_refusal f
 unfoldable pub ReportSays : (bs text : List ℕ) → Type 0
 ReportSays bs text = ReportAs (hall_refusal bs).number (hall_refusal bs) (hall_in bs) text
 
--- THE LIST of a file, where nothing refuses it
-pub record ListSays (bs : List ℕ) (r : Result (List ℕ) Kind) : Type 0 where
+-- THE LIST of a file, where nothing refuses it: what the text holds then
+pub record ListSays {A : Type 0} (bs : List ℕ) (r : Result A Kind) (text : List ℕ) : Type 0 where
   pub refusal : answered r ≡ hall_refusal bs
-  pub list : IfOk r (λ text. PlanPrinted (hall_in bs) text)
+  pub list : IfOk r (λ _. PlanPrinted (hall_in bs) text)

@@ -12,11 +12,11 @@ use Rattle.printing.proofs.push_choice.Goals.{In-loop-row}
 
 -- within the loop: the number is that of a row
 module _ (c : In-loop-row) where
-  is_row : (1 ≤ get_or c.args.rows.now c.loop-row.row-index 0) × (get_or c.args.rows.now c.loop-row.row-index 0 ≤ c.args.hall.now.lanes.count)
+  is_row : (1 ≤ get_or c.args.rows.now c.loop-row.row-index 0) × (get_or c.args.rows.now c.loop-row.row-index 0 ≤ c.args.hall.now.count)
   is_row = choice_at c.args.hall.now c.args.rows.now c.loop-row.row-index c.requires.choice c.loop-row-test.true
 
   place_low : get_or c.args.rows.now c.loop-row.row-index 0 ≤ 256
-  place_low = omega (arith, is_row, c.args.hall.now.lanes.ends.few)
+  place_low = omega (arith, is_row, c.requires.few)
 
 pub push_number_line-requires : goal.push_number_line-requires
 push_number_line-requires c = omega (arith, number_line_short (79 ∷ 80 ∷ 69 ∷ 78 ∷ 32 ∷ []) (length c.args.rows.now) (omega arith))

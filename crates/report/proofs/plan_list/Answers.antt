@@ -59,10 +59,10 @@ slice_bounds-print_plan-end-3 c = omega (arith, levels_fit (cuts (goal.at.slice_
 pub print_plan-requires : goal.print_plan-requires
 print_plan-requires c =
     let o = (goal.at.print_plan-requires c).In_ok-planned in
-    printable (rows o) (cuts o) c.in_ok-hall.ensures.hall
+    printable (rows o) (cuts o) c.in_ok-hall.ensures.hall _ c.of.ensures
 
 pub returns : goal.returns
 unfolding answered
 returns c =
     let o = (goal.at.returns c).In_ok-planned in
-    record { refusal = c.in_ok-hall.ensures.refusal; list = printed (rows o) (cuts o) c.in_ok-hall.ensures.hall c.print_plan.ensures }
+    record { refusal = c.in_ok-hall.ensures.refusal; list = printed (rows o) (cuts o) c.in_ok-hall.ensures.hall _ c.of.ensures c.print_plan.ensures }
