@@ -12,6 +12,7 @@ ghost use Rattle.columns.specs.Lanes.{RowsOf};
 ghost use Rattle.flip.specs.Flips.{FirstPlace, Made, Walked};
 ghost use Rattle.zerograph.specs.Zero.{ZeroGraph};
 
+use columns::Lanes;
 use zerograph::Network;
 
 // Whether the row at place k may be opened on the way from x to y.
@@ -25,13 +26,19 @@ fn may_open(network: &Network<'_>, k: usize, x: usize, y: usize) -> bool
 }
 
 // Whether the row at place k may be closed on the way from x to y.
-fn may_close(network: &Network<'_>, chosen: &[bool; 256], k: usize, x: usize, y: usize) -> bool
-    requires { k < network.now.lanes.now.count }
-    ensures { (h : Hall) (n : ℕ) → RowsOf h n network.now.lanes.now →
-        result ≡ closes h (flagged network.now.movable.now) (flagged chosen.now) x y (suc k) }
+fn may_close(
+    lanes: &Lanes,
+    movable: &[bool; 256],
+    chosen: &[bool; 256],
+    k: usize,
+    x: usize,
+    y: usize,
+) -> bool
+    requires { k < lanes.now.count }
+    ensures { (h : Hall) (n : ℕ) → RowsOf h n lanes.now → result ≡ closes h (flagged movable.now) (flagged chosen.now) x y (suc k) }
 {
-    let lane = network.lanes.lane(k);
-    x == lane.tail + 1 && (network.movable[k] & chosen[k] & (y == lane.head + 1))
+    let lane = lanes.lane(k);
+    x == lane.tail + 1 && (movable[k] & chosen[k] & (y == lane.head + 1))
 }
 
 // The place of the first row that may be opened on the way from x to y.
@@ -44,14 +51,19 @@ pub fn opening(network: &Network<'_>, x: usize, y: usize) -> Option<usize>
     (0..network.lanes.count).find(|&k| may_open(network, k, x, y))
 }
 
-// The place of the first row that may be closed on the way from x to y.
-pub fn closing(network: &Network<'_>, chosen: &[bool; 256], x: usize, y: usize) -> Option<usize>
-    ensures inside { IfSome result (λ k. k < network.now.lanes.now.count) }
-    ensures first { (h : Hall) (n : ℕ) → RowsOf h n network.now.lanes.now →
-        FirstPlace network.now.lanes.now.count
-        (λ k. closes h (flagged network.now.movable.now) (flagged chosen.now) x y (suc k)) result }
+// The place of the first row that may be closed on the way from x to y. Costs and a potential have no part in it, so it takes no network.
+pub fn closing(
+    lanes: &Lanes,
+    movable: &[bool; 256],
+    chosen: &[bool; 256],
+    x: usize,
+    y: usize,
+) -> Option<usize>
+    ensures inside { IfSome result (λ k. k < lanes.now.count) }
+    ensures first { (h : Hall) (n : ℕ) → RowsOf h n lanes.now →
+        FirstPlace lanes.now.count (λ k. closes h (flagged movable.now) (flagged chosen.now) x y (suc k)) result }
 {
-    (0..network.lanes.count).find(|&k| may_close(network, chosen, k, x, y))
+    (0..lanes.count).find(|&k| may_close(lanes, movable, chosen, k, x, y))
 }
 
 // The flags after the arc from x to y is made: a row opened or closed, or none where it is a swap.
@@ -69,7 +81,7 @@ pub fn make_arc(
     let mut next = flags;
     if let Some(open) = opening(network, x, y) {
         next[open] = true;
-    } else if let Some(close) = closing(network, chosen, x, y) {
+    } else if let Some(close) = closing(network.lanes, network.movable, chosen, x, y) {
         next[close] = false;
     }
     next

@@ -8,16 +8,15 @@ use Rattle.zerograph.proofs.Rows.{closes_here}
 use Rattle.flip.proofs.may_close.Goals as goal
 
 pub returns-then-x-lane : goal.returns-then-x-lane
-returns-then-x-lane c = let lane = c.lane-lane in let net = c.args.network.now in
-    λ h n cols.
+returns-then-x-lane c = let lane = c.lane-lane in λ h n cols.
     rw (add-one lane.result.head)
     (rw (eq-eqb c.args.x (suc lane.result.tail) (omega arith)) at
-    (closes_here h _ _ _ _ [] net.movable.now c.args.chosen.now [] cols c.args.k lane.result.tail lane.result.head c.requires lane.ensures.tail lane.ensures.head c.args.x c.args.y))
+    (closes_here h _ _ _ _ [] c.args.movable.now c.args.chosen.now [] cols c.args.k lane.result.tail lane.result.head c.requires lane.ensures.tail lane.ensures.head c.args.x c.args.y))
 
 pub returns-else-x-lane : goal.returns-else-x-lane
-returns-else-x-lane c = let lane = c.lane-lane in let net = c.args.network.now in
+returns-else-x-lane c = let lane = c.lane-lane in
     let other = ne_eqb c.args.x (suc lane.result.tail) (λ e. c.if-x-lane.false (omega arith)) in
     λ h n cols.
     rw (add-one lane.result.tail, other)
     (rw other at
-    (closes_here h _ _ _ _ [] net.movable.now c.args.chosen.now [] cols c.args.k lane.result.tail lane.result.head c.requires lane.ensures.tail lane.ensures.head c.args.x c.args.y))
+    (closes_here h _ _ _ _ [] c.args.movable.now c.args.chosen.now [] cols c.args.k lane.result.tail lane.result.head c.requires lane.ensures.tail lane.ensures.head c.args.x c.args.y))
