@@ -1,14 +1,13 @@
--- Flags of rows: a list without a flagged row, place by place; what flags say of a hall whose marks they are; some flag. Assumes nothing.
+-- Flags of rows: a list without a flagged row, place by place; what flags say of a hall whose marks they are; the opposite flags. Assumes nothing.
 use mathlib.Core.Path.{◌≡◌, refl, sym, ap, ap₂, ◌∙◌}
-use mathlib.Core.Bool.{Bool, true, false, ◌&&◌, ◌||◌, not}
+use mathlib.Core.Bool.{Bool, true, false, ◌&&◌, not}
 use mathlib.Core.List.{List, [], ◌∷◌}
-use Prim.Native.Nat.{ℕ, zero, suc, ◌+◌, ◌-◌, ◌<◌, ◌≤◌}
+use Prim.Native.Nat.{ℕ, suc, ◌+◌, ◌-◌, ◌<◌, ◌≤◌}
 use native.Mathlib.Numerals.{add-one}
 use native.Mathlib.Omega.{arith}
-use lib.ListN.{length, get_or, take, drop, drop_of_length-le}
-use lib.Seq.{drop-cons, take_all}
-use Rattle.std.specs.List.{list_any}
-use Rattle.std.proofs.lemmas.List.Folds.{list_any_more}
+use lib.ListN.{length, get_or, drop, set, length-set, replicate, length-replicate, drop_of_length-le}
+use lib.Seq.{drop-cons, get_or-set_same, get_or-set_other}
+use borrow.Author.Count.{below_more}
 use Rattle.laws.specs.Finite.{any_below}
 use Rattle.laws.specs.Lists.{all_in}
 use Rattle.laws.proofs.Booleans.{clash, not_true_false}
@@ -62,13 +61,19 @@ module _ (h : Hall) (fixed : List Bool) (marks : Marks h fixed) where
         → (i : ℕ) → 1 ≤ i → i ≤ count h → flagged others i ≡ unfixed_row h i
     opposite_unfixed others f i l m = f (i - 1) (omega arith) ∙ ap not (marks i l m)
 
--- some flag of a list, place by place
-any_first : (flags : List Bool) (k : ℕ) → k ≤ length flags → list_any (λ (b : Bool). b) (take k flags) ≡ any_below k (λ i. get_or flags i false)
-unfolding any_below
-any_first flags zero less = refl
-any_first flags (suc k) less =
-    ap (λ (n : ℕ). list_any (λ (b : Bool). b) (take n flags)) (sym (add-one k)) ∙ list_any_more (λ (b : Bool). b) flags k false less
-    ∙ ap (λ (b : Bool). b || get_or flags k false) (any_first flags k (omega arith))
+-- the first k places have the opposite flags
+pub record Opposite (flags : List Bool) (k : ℕ) (others : List Bool) : Type 0 where
+  pub len : length others ≡ 256
+  pub at : (j : ℕ) → j < k → get_or others j false ≡ not (get_or flags j false)
 
-pub list_any_below : (flags : List Bool) → list_any (λ (b : Bool). b) flags ≡ any_below (length flags) (λ k. get_or flags k false)
-list_any_below flags = ap (list_any (λ (b : Bool). b)) (sym (take_all (length flags) flags (omega arith))) ∙ any_first flags (length flags) (omega arith)
+pub opposite_none : (flags : List Bool) → Opposite flags 0 (replicate 256 false)
+opposite_none flags = record { len = length-replicate 256 false; at = λ j h. absurd (omega arith) }
+
+pub opposite_more : (flags : List Bool) (k : ℕ) (others : List Bool) → k < 256 → Opposite flags k others
+    → Opposite flags (k + 1) (set others k (not (get_or flags k false)))
+opposite_more flags k others h g = record {
+  len = length-set others k (not (get_or flags k false)) ∙ g.len;
+  at = below_more (λ (j : ℕ). get_or (set others k (not (get_or flags k false))) j false ≡ not (get_or flags j false)) k
+      (λ j m. get_or-set_other others k j (not (get_or flags k false)) false (λ q. omega arith) ∙ g.at j m)
+      (get_or-set_same others k (not (get_or flags k false)) false (omega (arith, g.len)));
+}

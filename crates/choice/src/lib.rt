@@ -63,18 +63,26 @@ pub fn is_choice(numbers: &[u32], rows: u32, fixed: &[bool; 256]) -> bool
     ascends(numbers, rows) && none_flagged(numbers, fixed)
 }
 
-// Some row is flagged.
+// Some row is flagged. It looks at every place, with no way out at the first: so the compiler joins many in a step.
 pub fn any_flagged(flags: &[bool; 256]) -> bool
     ensures { result ≡ any_below 256 (λ (k : ℕ). get_or flags.now k false) }
 {
-    flags.iter().any(|flag| *flag)
+    let mut any = false;
+    for k in 0..256 {
+        any |= flags[k];
+    }
+    any
 }
 
 // The rows that are not flagged, flagged.
 pub fn unflagged(flags: &[bool; 256]) -> [bool; 256]
     ensures { (length result ≡ 256) × ((k : ℕ) → k < 256 → get_or result k false ≡ not (get_or flags.now k false)) }
 {
-    flags.map(|flag| !flag)
+    let mut others = [false; 256];
+    for k in 0..256 {
+        others[k] = !flags[k];
+    }
+    others
 }
 
 // What the lowest of the junctions 1 to n that does not reach all reaches; none where each reaches all.
