@@ -78,7 +78,7 @@ impl<'a> Cuts<'a> {
 
     // Whether every row may carry its load: a fixed one any, another one up to its price.
     pub fn loads_fit(&self, hall: &Small) -> bool {
-        hall.rows.iter().all(|row| {
+        hall.rows.as_slice().iter().all(|row| {
             row.price
                 .is_none_or(|price| self.load(row.from, row.to) <= u64::from(price))
         })

@@ -1,9 +1,7 @@
 // Small halls: every one of a size, by its number, and random ones.
 ghost use Rattle.std.specs.Prelude.{◌≡◌, ◌≤◌, IfSome};
-ghost use Rattle.arrayvec.specs.ArrayVec.{array_vec_len};
 
-use crate::{Row, Small};
-use arrayvec::ArrayVec;
+use crate::{Row, Rows, Small};
 
 // The next of a sequence of numbers, by three shifts: the same in every run.
 fn next_of(x: u64) -> u64 {
@@ -39,7 +37,7 @@ impl Size {
     // The hall of a number: its digits, in the base of how many rows can be drawn, are the rows.
     // There is none of a number that has more digits than the hall has rows.
     pub fn hall(self, number: u64) -> Option<Small>
-        ensures { IfSome result (λ hall. (hall.n ≡ self.n) × (array_vec_len hall.rows ≡ self.rows)) }
+        ensures { IfSome result (λ hall. (hall.n ≡ self.n) × (hall.rows.count ≡ self.rows)) }
     {
         let Size {
             n,
@@ -47,7 +45,7 @@ impl Size {
             prices,
         } = self;
         let junctions = n as u64;
-        let mut rows = ArrayVec::new();
+        let mut rows = Rows::new();
         let mut left = number;
         for _ in 0..count {
             let (from, to) = ends_of(junctions, left);
@@ -124,7 +122,7 @@ impl Random {
         let count = n - 1 + kind / 128 % (12 - n);
         let prices = price_bound(kind / 4096);
         let share = fixed_share(kind / 1_048_576);
-        let mut rows = ArrayVec::new();
+        let mut rows = Rows::new();
         let mut seed = kind;
         for _ in 0..count {
             seed = next_of(seed);

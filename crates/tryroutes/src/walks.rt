@@ -40,7 +40,7 @@ impl Asked<'_> {
     // A row forward, or backward where it is chosen; none where it is not, or where there is no such row.
     fn step(&self, digit: u64) -> Option<Step> {
         let i = (digit / 2) as usize;
-        let row = self.hall.rows.get(i)?;
+        let row = self.hall.rows.as_slice().get(i)?;
         let number = i as i32 + 1;
         if digit % 2 == 0 {
             return Some(Step {

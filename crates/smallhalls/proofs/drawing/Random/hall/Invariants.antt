@@ -1,7 +1,6 @@
 -- `smallhalls::drawing::Random::hall`: there are as many rows as were drawn. Assumes nothing.
 use Rattle.std.proofs.Common.{◌≡◌}
-use Rattle.arrayvec.specs.ArrayVec.{array_vec_len}
 use Rattle.smallhalls.proofs.drawing.Random.hall.Given as goal
 
 abbrev pub invariant-loop : goal.invariant-loop
-invariant-loop l = array_vec_len l.rows ≡ l.counter
+invariant-loop l = l.rows.count ≡ l.counter
