@@ -35,7 +35,7 @@ impl<const N: usize> Text<N> {
         }
     }
 
-    // The empty text, in place.
+    // Makes the text empty, in place.
     pub fn clear(&mut self)
         ensures { self.new ≡ [] }
     {

@@ -6,8 +6,7 @@ ghost use Rattle.std.specs.Prelude.{◌≡◌, true, ◌++◌, ◌+◌, ◌*◌,
 ghost use Rattle.cutlist.specs.Cuts.{cuts_of};
 ghost use Rattle.hall.specs.Hall.{is_choice};
 ghost use Rattle.hall.specs.File.{refusal};
-ghost use Rattle.lines.specs.Lines.{cut_line, level_item};
-ghost use Rattle.printing.specs.Printed.{row_line, choice_lines, cut_lines, levels_line, printed_plan, printed_refusal};
+ghost use Rattle.printing.specs.Printed.{choice_lines, cut_lines, levels_line, printed_plan, printed_refusal};
 ghost use Rattle.printing.specs.Recorded.{hall_of, hall_drawn, Printable};
 ghost use Rattle.refusals.specs.Kinds.{refusal_of};
 
@@ -19,7 +18,7 @@ use refusals::Kind;
 /// A list or a line of at most 65,536 bytes: the longest list has some 34,000. It is lent, since a move copies all of it.
 pub type List = Text<65_536>;
 
-/// A hall as the columns of its rows, row i at place i - 1. Nothing is asked of what they hold: any ends and prices can be printed.
+/// A hall as the columns of its rows, row i at place i - 1. Any ends and prices can be printed: nothing is asked of them.
 #[derive(Clone, Copy)]
 pub struct Drawn<'a> {
     pub n: usize,

@@ -12,7 +12,7 @@ use Rattle.oneplan.proofs.Promise.{ChoiceListed, CutsListed}
 use Rattle.planrows.proofs.Reply.{rows_refused, rows_fine}
 use Rattle.report.proofs.Lists.{cuts_refused, cuts_fine, levels_fit, printable, printed, list_refused}
 use Rattle.report.proofs.plan_list.Goals as goal
-use Rattle.report.proofs.plan_list.Goals.{In_ok-chosen, In_ok-planned}
+use Rattle.report.proofs.plan_list.Goals.{In_ok-planned}
 
 -- where neither call refuses
 module _ (c : In_ok-planned) where
