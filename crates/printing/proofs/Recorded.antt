@@ -1,4 +1,4 @@
--- The rows of a hall that columns draw stand in them, and the hall of the record of a hall is the hall. Assumes nothing.
+-- The rows of the hall of a record stand in its columns, those of a hall that columns draw in these, and the hall of the record of a hall is the hall. Assumes nothing.
 use mathlib.Core.Path.{◌≡◌, refl, ap, ap₂, ◌∙◌}
 use mathlib.Core.Bool.{Bool, true, false}
 use mathlib.Core.List.{List}
@@ -29,35 +29,67 @@ module _ (t h p : List ℕ) (x : List Bool) where
   rows_at d i (suc k) zero l = let e : i ≡ i + 0 = omega arith in ap (row_in_columns t h p x) e
   rows_at d i (suc k) (suc j) l = let e : suc i + j ≡ i + suc j = omega arith in rows_at d (suc i) k j (omega arith) ∙ ap (row_in_columns t h p x) e
 
--- the rows of columns from the first on
+-- the hall of columns, their rows from the first on
 module _ (t h p : List ℕ) (x : List Bool) (n m : ℕ) where
-  drawn_count : count (hall n (rows_from t h p x 0 m)) ≡ m
-  unfolding hall count
-  drawn_count = rows_length t h p x 0 m
+  abbrev columns_hall : Hall
+  columns_hall = hall n (rows_from t h p x 0 m)
 
-  drawn_place : (k : ℕ) → k < m → get_or (hall n (rows_from t h p x 0 m)).rows k (row_of 0 0 0) ≡ row_in_columns t h p x k
+  columns_count : count columns_hall ≡ m
+  unfolding hall count
+  columns_count = rows_length t h p x 0 m
+
+  columns_place : (k : ℕ) → k < m → get_or columns_hall.rows k (row_of 0 0 0) ≡ row_in_columns t h p x k
   unfolding hall
-  drawn_place k less =
+  columns_place k less =
       let e : 0 + k ≡ k = omega arith in
       rows_at t h p x (row_of 0 0 0) 0 m k less ∙ ap (row_in_columns t h p x) e
 
-module _ (d : Drawn) where
-  pub hall-count : count (hall_drawn d) ≡ d.count
-  unfolding hall_drawn
-  hall-count = drawn_count d.tails.now d.heads.now d.prices.now d.fixed.now d.n d.count
+  columns_line : (i : ℕ) → 1 ≤ i → i ≤ m → row_line columns_hall i ≡ four_line i (get_or t (i - 1) 0) (get_or h (i - 1) 0) (get_or p (i - 1) 0)
+  unfolding row_line row row_in_columns
+  columns_line i low high = ap (λ (x : Row). four_line i x.from x.to x.price) (columns_place (i - 1) (omega arith))
 
-  pub hall_junctions : (hall_drawn d).n ≡ d.n
-  unfolding hall_drawn hall
+  columns_choice : (ns : List ℕ) (k : ℕ) → is_choice columns_hall ns ≡ true → k < length ns → (1 ≤ get_or ns k 0) × (get_or ns k 0 ≤ m)
+  columns_choice ns k e l = let w = ascends_at 1 (count columns_hall) ns k (choice_ascends columns_hall ns e) l in (w.0, omega (arith, w.1, columns_count))
+
+-- of the hall of a record
+module _ (r : HallRecord) where
+  pub hall-count : count (hall_of r) ≡ r.lanes.count
+  unfolding hall_of
+  hall-count = columns_count r.lanes.tails r.lanes.heads r.prices r.fixed r.lanes.n r.lanes.count
+
+  pub hall_junctions : (hall_of r).n ≡ r.lanes.n
+  unfolding hall_of hall
   hall_junctions = refl
 
   -- the line of a row, from its columns
-  pub row_line_is : (i : ℕ) → 1 ≤ i → i ≤ d.count → row_line (hall_drawn d) i ≡ four_line i (get_or d.tails.now (i - 1) 0) (get_or d.heads.now (i - 1) 0) (get_or d.prices.now (i - 1) 0)
-  unfolding hall_drawn row_line row row_in_columns
-  row_line_is i low high = ap (λ (x : Row). four_line i x.from x.to x.price) (drawn_place d.tails.now d.heads.now d.prices.now d.fixed.now d.n d.count (i - 1) (omega arith))
+  pub row_line_is : (i : ℕ) → 1 ≤ i → i ≤ r.lanes.count → row_line (hall_of r) i ≡ four_line i (get_or r.lanes.tails (i - 1) 0) (get_or r.lanes.heads (i - 1) 0) (get_or r.prices (i - 1) 0)
+  unfolding hall_of
+  row_line_is = columns_line r.lanes.tails r.lanes.heads r.prices r.fixed r.lanes.n r.lanes.count
+
+  -- a choice of the hall has numbers of the record's rows
+  pub choice_at : (ns : List ℕ) (k : ℕ) → is_choice (hall_of r) ns ≡ true → k < length ns → (1 ≤ get_or ns k 0) × (get_or ns k 0 ≤ r.lanes.count)
+  unfolding hall_of
+  choice_at = columns_choice r.lanes.tails r.lanes.heads r.prices r.fixed r.lanes.n r.lanes.count
+
+-- of the hall that columns draw
+module _ (d : Drawn) where
+  pub drawn_count : count (hall_drawn d) ≡ d.count
+  unfolding hall_drawn
+  drawn_count = columns_count d.tails.now d.heads.now d.prices.now d.fixed.now d.n d.count
+
+  pub drawn_junctions : (hall_drawn d).n ≡ d.n
+  unfolding hall_drawn hall
+  drawn_junctions = refl
+
+  -- the line of a row, from the columns
+  pub drawn_line_is : (i : ℕ) → 1 ≤ i → i ≤ d.count → row_line (hall_drawn d) i ≡ four_line i (get_or d.tails.now (i - 1) 0) (get_or d.heads.now (i - 1) 0) (get_or d.prices.now (i - 1) 0)
+  unfolding hall_drawn
+  drawn_line_is = columns_line d.tails.now d.heads.now d.prices.now d.fixed.now d.n d.count
 
   -- a choice of the hall has numbers of the columns' rows
-  pub choice_at : (ns : List ℕ) (k : ℕ) → is_choice (hall_drawn d) ns ≡ true → k < length ns → (1 ≤ get_or ns k 0) × (get_or ns k 0 ≤ d.count)
-  choice_at ns k e l = let w = ascends_at 1 (count (hall_drawn d)) ns k (choice_ascends (hall_drawn d) ns e) l in (w.0, omega (arith, w.1, hall-count))
+  pub drawn_choice_at : (ns : List ℕ) (k : ℕ) → is_choice (hall_drawn d) ns ≡ true → k < length ns → (1 ≤ get_or ns k 0) × (get_or ns k 0 ≤ d.count)
+  unfolding hall_drawn
+  drawn_choice_at = columns_choice d.tails.now d.heads.now d.prices.now d.fixed.now d.n d.count
 
 -- the hall of a record of a hall is the hall
 module _ (h : Hall) (r : HallRecord) (is : RecordOf h r) where
@@ -81,20 +113,16 @@ module _ (h : Hall) (r : HallRecord) (is : RecordOf h r) where
         column-at false (λ r. r.fixed) h.rows k none less small,
       ) refl
 
-  record-count : count (hall_of r) ≡ r.lanes.count
-  unfolding hall_of
-  record-count = drawn_count r.lanes.tails r.lanes.heads r.prices r.fixed r.lanes.n r.lanes.count
-
   record_place : (k : ℕ) → k < r.lanes.count → get_or (hall_of r).rows k (row_of 0 0 0) ≡ place_row k
   unfolding hall_of
-  record_place = drawn_place r.lanes.tails r.lanes.heads r.prices r.fixed r.lanes.n r.lanes.count
+  record_place = columns_place r.lanes.tails r.lanes.heads r.prices r.fixed r.lanes.n r.lanes.count
 
   record_rows : (hall_of r).rows ≡ h.rows
   unfolding count
   record_rows =
-      ext_get_or (row_of 0 0 0) (hall_of r).rows h.rows (record-count ∙ is.rows)
+      ext_get_or (row_of 0 0 0) (hall_of r).rows h.rows (hall-count r ∙ is.rows)
       (λ k l.
-      let less : k < r.lanes.count = omega (arith, record-count) in
+      let less : k < r.lanes.count = omega (arith, hall-count r) in
       record_place k less ∙ record_row k less)
 
   pub hall_of_record : hall_of r ≡ h

@@ -28,7 +28,7 @@ use Rattle.planpairs.specs.declared.PlannedCuts.{PlannedCuts}
 use Rattle.printing.specs.Printed.{printed_plan, printed_refusal}
 use Rattle.printing.specs.declared.Drawn.{Drawn}
 use Rattle.printing.specs.Recorded.{hall_of, hall_drawn, Printable}
-use Rattle.printing.proofs.Recorded.{hall-count, hall_junctions, hall_of_record}
+use Rattle.printing.proofs.Recorded.{drawn_count, drawn_junctions, hall_of_record}
 use Rattle.report.specs.Report.{PlanPrinted, ReportAs, ReportSays, ListSays}
 
 module _ (bs : List ℕ) where
@@ -63,29 +63,25 @@ module _ {h : Hall} {c : List ℕ} {q l : ℕ} {y : List Cut} {d w : List ℤ} (
 
 -- what the two replies for one file leave can be printed, and what is printed is the plan
 module _ {h : Hall} {k t q l : ℕ} {x : List ℕ} {y : List Cut} {d w : List ℤ} {hall : HallRecord}
-    (r : ChoiceListed h k t x) (s : CutsListed lent h (take k x) q l y d w) (is : RecordOf h hall) (drawn : Drawn) (of : hall_drawn drawn ≡ hall_of hall) where
-  same_hall : hall_drawn drawn ≡ h
-  same_hall = of ∙ hall_of_record h hall is
+    (r : ChoiceListed h k t x) (s : CutsListed lent h (take k x) q l y d w) (is : RecordOf h hall) where
+  same_hall : {g : Hall} → g ≡ hall_of hall → g ≡ h
+  same_hall of = of ∙ hall_of_record h hall is
 
-  same_junctions : drawn.n ≡ hall.lanes.n
-  same_junctions = sym (hall_junctions drawn) ∙ ap (λ (g : Hall). g.n) same_hall ∙ sym is.junctions
-
-  same_count : drawn.count ≡ hall.lanes.count
-  same_count = sym (hall-count drawn) ∙ ap count same_hall ∙ sym is.rows
-
-  pub printable : Printable drawn (take k x) (take q y) (take l w)
+  pub printable : (drawn : Drawn) → hall_drawn drawn ≡ hall_of hall → Printable drawn (take k x) (take q y) (take l w)
   unfolding most_cuts
-  printable = record {
-    junctions = omega (arith, same_junctions, hall.lanes.ends.size);
-    few = omega (arith, same_count, hall.lanes.ends.few);
-    choice = rw same_hall r.first.choice;
-    cuts = omega (arith, ap length s.listed, length-map s.cuts lent, s.beside.few, is.junctions, hall.lanes.ends.size);
-    leveled = omega (arith, ap length (levels_are s), levels-length s, is.junctions, hall.lanes.ends.size);
-  }
+  printable drawn of =
+      let same : hall_drawn drawn ≡ h = same_hall of in
+      record {
+        junctions = omega (arith, drawn_junctions drawn, ap (λ (g : Hall). g.n) same, is.junctions, hall.lanes.ends.size);
+        few = omega (arith, drawn_count drawn, ap count same, is.rows, hall.lanes.ends.few);
+        choice = rw same r.first.choice;
+        cuts = omega (arith, ap length s.listed, length-map s.cuts lent, s.beside.few, is.junctions, hall.lanes.ends.size);
+        leveled = omega (arith, ap length (levels_are s), levels-length s, is.junctions, hall.lanes.ends.size);
+      }
 
-  pub printed : {text : List ℕ} → text ≡ printed_plan (hall_drawn drawn) (take k x) t (cuts_of (take q y)) (take l w) → PlanPrinted h text
+  pub printed : {g : Hall} → g ≡ hall_of hall → {text : List ℕ} → text ≡ printed_plan g (take k x) t (cuts_of (take q y)) (take l w) → PlanPrinted h text
   unfolding PlanPrinted
-  printed is_text = (take k x, s.cuts, r.first, s.beside, rw (same_hall, r.sum, cuts_are s, levels_are s) at is_text)
+  printed of is_text = (take k x, s.cuts, r.first, s.beside, rw (same_hall of, r.sum, cuts_are s, levels_are s) at is_text)
 
 -- the list is the report where there is one, and the line of the refusal where there is none
 module _ (bs : List ℕ) where

@@ -12,13 +12,13 @@ use Rattle.lines.proofs.Lines.{number_line_short, pair_line_short}
 use Rattle.printing.specs.Printed.{printed_plan, choice_lines, cut_lines, levels_line, hall_word, total_word}
 use Rattle.printing.specs.declared.Drawn.{Drawn}
 use Rattle.printing.specs.Recorded.{hall_drawn}
-use Rattle.printing.proofs.Recorded.{hall-count, hall_junctions}
+use Rattle.printing.proofs.Recorded.{drawn_count, drawn_junctions}
 use Rattle.printing.proofs.print_plan.Goals as goal
 use Rattle.printing.proofs.print_plan.Goals.{After-push_choice, After-push_cuts, After-push_number_line, After-push_pair_line, Start}
 
 module _ (c : Start) where
   rows_few : length c.args.rows.now ≤ 256
-  rows_few = omega (arith, c.requires.few, hall-count c.args.hall.now, choice_length (hall_drawn c.args.hall.now) c.args.rows.now c.requires.choice)
+  rows_few = omega (arith, c.requires.few, drawn_count c.args.hall.now, choice_length (hall_drawn c.args.hall.now) c.args.rows.now c.requires.choice)
 
   hall-short : length (pair_line (72 ∷ 65 ∷ 76 ∷ 76 ∷ 32 ∷ []) c.args.hall.now.n c.args.hall.now.count) ≤ 47
   hall-short = pair_line_short (72 ∷ 65 ∷ 76 ∷ 76 ∷ 32 ∷ []) c.args.hall.now.n c.args.hall.now.count (omega (arith, c.requires.junctions)) (omega (arith, c.requires.few))
@@ -59,7 +59,7 @@ plan_parts : (d : Drawn) (c : List ℕ) (t : ℕ) (ks : List Cut) (ls : List ℤ
 unfolding printed_plan
 plan_parts d c t ks ls =
     ap₂ (λ (n m : ℕ). text (pair_line hall_word n m ∷ choice_lines (hall_drawn d) c ∷ number_line total_word t ∷ cut_lines n ks ∷ levels_line ls ∷ []))
-    (hall_junctions d) (hall-count d)
+    (drawn_junctions d) (drawn_count d)
 
 pub returns : goal.returns
 unfolding hall_word total_word text

@@ -5,7 +5,7 @@ use Rattle.std.proofs.lemmas.Grind.{common_steps}
 use Rattle.lines.specs.Lines.{text}
 use Rattle.lines.proofs.Lines.{number_line_short}
 use Rattle.printing.specs.Printed.{choice_lines, open_word}
-use Rattle.printing.proofs.Recorded.{row_line_is, choice_at}
+use Rattle.printing.proofs.Recorded.{drawn_line_is, drawn_choice_at}
 use Rattle.printing.proofs.Each.{each_none, each_next, each_all}
 use Rattle.printing.proofs.push_choice.Goals as goal
 use Rattle.printing.proofs.push_choice.Goals.{In-loop-row}
@@ -13,7 +13,7 @@ use Rattle.printing.proofs.push_choice.Goals.{In-loop-row}
 -- within the loop: the number is that of a row
 module _ (c : In-loop-row) where
   is_row : (1 ≤ get_or c.args.rows.now c.loop-row.row-index 0) × (get_or c.args.rows.now c.loop-row.row-index 0 ≤ c.args.hall.now.count)
-  is_row = choice_at c.args.hall.now c.args.rows.now c.loop-row.row-index c.requires.choice c.loop-row-test.true
+  is_row = drawn_choice_at c.args.hall.now c.args.rows.now c.loop-row.row-index c.requires.choice c.loop-row-test.true
 
   place_low : get_or c.args.rows.now c.loop-row.row-index 0 ≤ 256
   place_low = omega (arith, is_row, c.requires.few)
@@ -44,7 +44,7 @@ loop-row-preserved c =
     let h = c.args.hall.now in
     let i = get_or c.args.rows.now c.loop-row.row-index 0 in
     let row = is_row (goal.at.loop-row-preserved c).In-loop-row in
-    let line = row_line_is h i row.0 row.1 in
+    let line = drawn_line_is h i row.0 row.1 in
     each_next 0 c.loop-row-test.true c.loop-row.invariant (c.push_row_line.ensures.appended ∙ ap (λ (l : List ℕ). c.loop-row.text ++ l) (sym line)) (rw line c.push_row_line.ensures.short)
 
 pub returns-clause-appended : goal.returns-clause-appended

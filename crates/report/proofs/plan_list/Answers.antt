@@ -65,4 +65,4 @@ pub returns : goal.returns
 unfolding answered
 returns c =
     let o = (goal.at.returns c).In_ok-planned in
-    record { refusal = c.in_ok-hall.ensures.refusal; list = printed (rows o) (cuts o) c.in_ok-hall.ensures.hall _ c.of.ensures c.print_plan.ensures }
+    record { refusal = c.in_ok-hall.ensures.refusal; list = printed (rows o) (cuts o) c.in_ok-hall.ensures.hall c.of.ensures c.print_plan.ensures }
